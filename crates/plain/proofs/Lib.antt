@@ -1,0 +1,6 @@
+pub mod Says
+pub mod Least
+pub mod Tabulate
+pub mod Count
+pub mod Pigeon
+pub mod Decide

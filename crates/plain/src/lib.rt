@@ -1,0 +1,1 @@
+// Numbers and lists, with nothing of machines in them: definitions in specs/, their laws in proofs/. No function.

@@ -1,0 +1,12 @@
+pub mod Under
+pub mod Lowest
+pub mod Roads
+pub mod Groups
+pub mod More
+pub mod Uplinks
+pub mod Machines
+pub mod Hubs
+pub mod Lone
+pub mod Crossing
+pub mod Decided
+pub mod Star

@@ -1,0 +1,47 @@
+-- More links keep what fewer give: escapes, joins, groups and walks. So what more links part, fewer part.
+use Prim.Native.Nat.{ℕ}
+use Rattle.graph.specs.Walk.{Relation}
+use Rattle.graph.proofs.Walks.{map}
+use Rattle.rings.specs.Tree.{Tree}
+use Rattle.rings.specs.Network.{Cable, rising, falling, cross}
+use Rattle.rings.specs.Ring.{Escape}
+use Rattle.rings.specs.Group.{Joins, SameGroup}
+use Rattle.rings.specs.Statements.{FurtherLinks}
+
+module _ {T : Tree} {L M : Relation} (f : (a b : ℕ) → L a b → M a b) where
+  pub escape-map : {x y : ℕ} → Escape T L x y → Escape T M x y
+  escape-map g = record { inner = g .inner; outer = g .outer; link = f _ _ (g .link); below = g .below; beyond = g .beyond }
+
+  pub joins-map : {w x y : ℕ} → Joins T L w x y → Joins T M w x y
+  joins-map j = record {
+    left = j .left;
+    right = j .right;
+    apart = j .apart;
+    one = j .one;
+    two = j .two;
+    link = f _ _ (j .link);
+    below-left = j .below-left;
+    below-right = j .below-right;
+  }
+
+  pub group-map : {w x y : ℕ} → SameGroup T L w x y → SameGroup T M w x y
+  group-map = map (λ a b. joins-map)
+
+cable-map : {U L M : Relation} → ((a b : ℕ) → L a b → M a b) → (a b : ℕ) → Cable U L a b → Cable U M a b
+cable-map f a b (rising u) = rising u
+cable-map f a b (falling u) = falling u
+cable-map f a b (cross l) = cross (f a b l)
+
+pub further-links : FurtherLinks
+further-links T L M f = record {
+  machine = λ w k. record {
+    one = k .one;
+    two = k .two;
+    one-in = k .one-in;
+    two-in = k .two-in;
+    one-other = k .one-other;
+    two-other = k .two-other;
+    parted = λ p. k .parted (map (λ a b s. (s .0, s .1, cable-map f a b (s .2))) p);
+  };
+  uplink = λ v w q p. q (map (cable-map f) p);
+}

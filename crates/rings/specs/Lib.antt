@@ -1,0 +1,5 @@
+pub mod Tree
+pub mod Network
+pub mod Ring
+pub mod Group
+pub mod Statements

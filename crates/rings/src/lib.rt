@@ -1,0 +1,1 @@
+// A tree with cross links: chokes read off rings and groups. Definitions in specs/, theorems in proofs/. No function.

@@ -1,0 +1,46 @@
+-- Demand 1: bad trees, tables and links are refused by number and place, and no byte of the caller's changes. Over a sound tree, tables
+-- handed back are refused exactly when no run of accepted batches could have left them.
+use mathlib.Core.Path.{_≡_}
+use mathlib.Core.Bool.{true, false}
+use mathlib.Core.List.{List}
+use mathlib.Core.Logic.{_≢_, _↔_}
+use Prim.Native.Nat.{ℕ, _<_}
+use lib.ListN.{length}
+use Rattle.plain.specs.Table.{at}
+use Rattle.tables.specs.Verdict.{Sound, Refused, checks}
+use Rattle.tables.specs.Tree.{hub, Reaches, sizeVerdict, treeVerdict}
+use Rattle.tables.specs.Tables.{Tables, tableSizes}
+use Rattle.tables.specs.History.{Left}
+use Rattle.tables.specs.Rules.{breaks, rulesVerdict}
+use Rattle.tables.specs.Outcome.{Bytes, startOf, addOf, reportOf}
+
+-- a sound tree: every entry a machine, one hub, and every machine reaches it
+pub record SoundTree (up : List ℕ) : Type 0 where
+  pub inside : (v : ℕ) → v < length up → at up v < length up
+  pub hub-in : hub up < length up
+  pub hub-self : at up (hub up) ≡ hub up
+  pub only : (v : ℕ) → v < length up → at up v ≡ v → v ≡ hub up
+  pub reaches : (v : ℕ) → v < length up → Reaches up v
+
+-- a tree is accepted exactly where it is sound, and code 5 names the least machine that no number of steps leads to the hub
+pub record TreesExact : Type 0 where
+  pub sound : (up : List ℕ) → (treeVerdict up ≡ Sound) ↔ SoundTree up
+  pub never : (up : List ℕ) (v : ℕ) → treeVerdict up ≡ Refused 5 v → (v < length up) × (¬ Reaches up v) × ((u : ℕ) → u < v → Reaches up u)
+
+-- over a sound tree, tables of the right lengths are refused with 6 exactly where no history leaves them, with the least machine breaking a rule
+pub record TablesExact (up : List ℕ) (t : Tables) : Type 0 where
+  pub kept : (rulesVerdict up t ≡ Sound) ↔ Left up t
+  pub add-refused : (batch : List ℕ) → (addOf up batch t .code ≡ 6) ↔ (¬ Left up t)
+  pub report-refused : (o : Bytes) → length (o .machines) ≡ length up → length (o .links) ≡ length up → (reportOf up t o .code ≡ 6) ↔ (¬ Left up t)
+  pub place : (v : ℕ) → rulesVerdict up t ≡ Refused 6 v → (v < length up) × (breaks up t v ≡ true) × ((u : ℕ) → u < v → breaks up t u ≡ false)
+
+-- on a refusal every lent slice is untouched
+pub record Untouched : Type 0 where
+  pub start : (up : List ℕ) (t : Tables) → startOf up t .code ≢ 0 → startOf up t .lent ≡ t
+  pub add : (up batch : List ℕ) (t : Tables) → addOf up batch t .code ≢ 0 → addOf up batch t .lent ≡ t
+  pub report : (up : List ℕ) (t : Tables) (o : Bytes) → reportOf up t o .code ≢ 0 → reportOf up t o .lent ≡ o
+
+pub record Demand1 : Type 0 where
+  pub trees : TreesExact
+  pub tables-exact : (up : List ℕ) (t : Tables) → sizeVerdict up ≡ Sound → treeVerdict up ≡ Sound → checks (tableSizes up t) ≡ Sound → TablesExact up t
+  pub untouched : Untouched

@@ -1,0 +1,47 @@
+-- What a link and a run of links do, as laws: the tables depend on the set of links alone.
+use mathlib.Core.Path.{_≡_}
+use mathlib.Core.Bool.{true, _&&_, not}
+use mathlib.Core.List.{List, [], _∷_}
+use mathlib.Core.Logic.{_≢_, _⊎_, _↔_}
+use Prim.Native.Nat.{ℕ, _<_, _≤_, max}
+use lib.ListN.{length}
+use lib.Dec.{eqb}
+use Rattle.plain.specs.Table.{at}
+use Rattle.graph.specs.Cable.{Cables, Linked}
+use Rattle.rings.specs.Ring.{Rings, Carries}
+use Rattle.rings.specs.Group.{SameGroup}
+use Rattle.tables.specs.Verdict.{Sound}
+use Rattle.tables.specs.Tree.{treeVerdict, treeOf}
+use Rattle.tables.specs.Link.{over, meet, ring, due}
+use Rattle.tables.specs.History.{History, Lived, links, tables}
+
+-- x is on the ring and not w exactly where it is on one of the two lines and not on the other
+abbrev pub RingLines : Type 0
+RingLines = (up : List ℕ) → treeVerdict up ≡ Sound → (a b x : ℕ) → a < length up → b < length up → x < length up
+    → ((ring up a b x ≡ true) × (x ≢ meet up a b))
+    ↔ (((over up x a ≡ true) × (over up x b ≢ true)) ⊎ ((over up x b ≡ true) × (over up x a ≢ true)))
+
+-- the greatest mark that one of the links asks of x
+unfoldable pub greatest : List ℕ → Cables → ℕ → ℕ
+greatest up [] x = 0
+greatest up (p ∷ l) x = max (due up (p .0) (p .1) x) (greatest up l x)
+
+-- what the tables tell after a history
+pub record Tells (up : List ℕ) (h : History) : Type 0 where
+  -- marks are the greatest that one link asks, and say what is ringed and what is carried
+  pub marks : (x : ℕ) → x < length up → at (tables up h .mark) x ≡ greatest up (links h) x
+  pub ringed : (x : ℕ) → x < length up → (1 ≤ at (tables up h .mark) x) ↔ Rings (treeOf up) (Linked (links h)) x
+  pub carried : (x : ℕ) → x < length up → (at (tables up h .mark) x ≡ 2) ↔ Carries (treeOf up) (Linked (links h)) x
+  -- groups are the classes of the joins, named by their least member
+  pub grouped : (x y : ℕ) → x < length up → y < length up
+      → (at (tables up h .group) x ≡ at (tables up h .group) y) ↔ SameGroup (treeOf up) (Linked (links h)) (at up x) x y
+  pub member : (x : ℕ) → x < length up → at (tables up h .group) (at (tables up h .group) x) ≡ at (tables up h .group) x
+  pub least : (x y : ℕ) → x < length up → y < length up → at (tables up h .group) x ≡ at (tables up h .group) y → at (tables up h .group) x ≤ y
+
+abbrev pub TablesTell : Type 0
+TablesTell = (up : List ℕ) (h : History) → Lived up h → Tells up h
+
+-- order, batches, repeats and ends swapped do not matter
+abbrev pub OrderFree : Type 0
+OrderFree = (up : List ℕ) (h i : History) → Lived up h → Lived up i
+    → ((a b : ℕ) → Linked (links h) a b ↔ Linked (links i) a b) → tables up h ≡ tables up i

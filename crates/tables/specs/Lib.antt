@@ -1,0 +1,16 @@
+pub mod Verdict
+pub mod Tree
+pub mod Tables
+pub mod Link
+pub mod Batch
+pub mod History
+pub mod Rules
+pub mod Report
+pub mod Outcome
+pub mod Cables
+pub mod Laws
+pub mod Calls
+pub mod Demand1
+pub mod Demand2
+pub mod Demand3
+pub mod Worked

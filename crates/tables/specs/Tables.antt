@@ -1,0 +1,24 @@
+-- The three tables beside up: depth, group and mark.
+use mathlib.Core.List.{List, [], _∷_}
+use Prim.Native.Nat.{ℕ}
+use lib.ListN.{length, replicate}
+use lib.Dec.{eqb}
+use Rattle.plain.specs.Table.{tabulate}
+use Rattle.tables.specs.Verdict.{Verdict, unless}
+use Rattle.tables.specs.Tree.{depthOf}
+
+pub record Tables : Type 0 where
+  pub depth : List ℕ
+  pub group : List ℕ
+  pub mark : List ℕ
+
+-- right depths, each machine its own group, every mark 0
+unfoldable pub fresh : List ℕ → Tables
+fresh up = record { depth = tabulate (length up) (depthOf up); group = tabulate (length up) (λ v. v); mark = replicate (length up) 0 }
+
+-- code 2: the slice of that number has a length other than n
+abbrev pub sized : ℕ → List ℕ → List ℕ → Verdict
+sized which slice up = unless (eqb (length slice) (length up)) 2 which
+
+unfoldable pub tableSizes : List ℕ → Tables → List Verdict
+tableSizes up t = sized 1 (t .depth) up ∷ sized 2 (t .group) up ∷ sized 3 (t .mark) up ∷ []

@@ -1,0 +1,49 @@
+-- The up table: climbing, the hub, depths, and what is refused of a tree.
+use mathlib.Core.Path.{_≡_}
+use mathlib.Core.Bool.{_&&_}
+use mathlib.Core.List.{List, [], _∷_}
+use Prim.Native.Nat.{ℕ, zero, suc}
+use lib.ListN.{length}
+use lib.Dec.{leb, ltb, eqb}
+use Rattle.plain.specs.Search.{least}
+use Rattle.plain.specs.Table.{at}
+use Rattle.rings.specs.Tree.{Tree}
+use Rattle.tables.specs.Verdict.{Verdict, checks, unless, refuseLeast}
+
+-- a site has at most so many machines
+abbrev pub mostMachines : ℕ
+mostMachines = 4096
+
+-- the machine k steps up from v
+unfoldable pub climb : List ℕ → ℕ → ℕ → ℕ
+climb up zero v = v
+climb up (suc k) v = climb up k (at up v)
+
+-- the machine that names itself: the least, if there are several; n, if there is none
+unfoldable pub hub : List ℕ → ℕ
+hub up = least (length up) (λ v. eqb (at up v) v)
+
+-- v reaches the hub: some number of steps leads there
+abbrev pub Reaches : List ℕ → ℕ → Type 0
+Reaches up v = (k : ℕ) × (climb up k v ≡ hub up)
+
+-- steps to the hub; n, if fewer than n steps never lead there (then none do: demand 1)
+unfoldable pub depthOf : List ℕ → ℕ → ℕ
+depthOf up v = least (length up) (λ k. eqb (climb up k v) (hub up))
+
+-- code 1: up has length 0 or over 4,096
+unfoldable pub sizeVerdict : List ℕ → Verdict
+sizeVerdict up = unless (ltb 0 (length up) && leb (length up) mostMachines) 1 (length up)
+
+-- 3: an up entry is n or more; 4: hubs are not exactly one; 5: a machine never reaches the hub
+unfoldable pub treeVerdict : List ℕ → Verdict
+treeVerdict up =
+    checks (refuseLeast 3 (length up) (λ v. leb (length up) (at up v))
+    ∷ unless (ltb (hub up) (length up)) 4 (length up)
+    ∷ refuseLeast 4 (length up) (λ v. ltb (hub up) v && eqb (at up v) v)
+    ∷ refuseLeast 5 (length up) (λ v. leb (length up) (depthOf up v))
+    ∷ [])
+
+-- the tree, as the theory of rings has it
+abbrev pub treeOf : List ℕ → Tree
+treeOf up = record { size = length up; hub = hub up; up = λ v. at up v }
