@@ -1,2 +1,10 @@
 pub mod Walks
 pub mod Reach
+pub mod Members
+pub mod Paths
+pub mod InWords
+pub mod Cables
+pub mod TwoPaths
+pub mod Inverse
+pub mod Renumbered
+pub mod Triangle

@@ -61,7 +61,7 @@ says-or {a} {b} {P} {Q} s t = go a refl
     go true e = record { gives = λ f. inl (s .gives e); takes = λ k. refl }
     go false e = record { gives = λ f. inr (t .gives f); takes = ⊎-elim (λ p. absurd (refuted s e p)) (t .takes) }
 
--- for a test of b that stands before another: the other matters only where b fails
+-- a test that stands before another: the other matters only where the first fails
 pub says-unless : {a b : Bool} {P Q : Type 0} → Says a P → Says b Q → Says (a || b) (¬ P → Q)
 says-unless s t = says-map (λ d q. ⊎-elim (λ p. absurd (q p)) (λ x. x) d) (λ f. elim (decided s) [ yes p ↦ inl p | no q ↦ inr (f q) ]) (says-or s t)
 
@@ -76,3 +76,6 @@ says-some (suc n) {p} {P} s =
     from : (k : ℕ) → k < suc n → P k → P zero ⊎ ((j : ℕ) × (j < n) × P (suc j))
     from zero h q = inl q
     from (suc k) h q = inr (k, omega arith, q)
+
+pub says-if : {a b : Bool} {P Q : Type 0} → Says a P → Says b Q → Says (not a || b) (P → Q)
+says-if s t = says-map (λ f p. f (λ q. q p)) (λ f q. elim (decided s) [ yes p ↦ f p | no o ↦ absurd (q o) ]) (says-unless (says-not s) t)

@@ -1,1 +1,13 @@
+pub mod Verdicts
+pub mod Climb
+pub mod Sound
+pub mod Lines
+pub mod Dues
+pub mod Told
+pub mod Marking
+pub mod Naming
+pub mod Histories
+pub mod Kept
+pub mod Wanted
+pub mod Complete
 pub mod Worked

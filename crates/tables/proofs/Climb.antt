@@ -1,0 +1,64 @@
+-- Climbing, and why the hub is reached in fewer than n steps or never: the machines met on a shortest climb are all different, and there are n.
+use mathlib.Core.Path.{_≡_, sym, ap, _∙_}
+use mathlib.Core.Bool.{Bool, false}
+use mathlib.Core.List.{List}
+use Prim.Native.Nat.{ℕ, zero, suc, _+_, _-_, _<_}
+use native.Mathlib.Nat.{zero-add, suc-add}
+use native.Mathlib.Omega.{arith}
+use lib.ListN.{length}
+use lib.Dec.{ltb, eqb}
+use borrow.Author.Tests.{eq-eqb, eqb-true, ltb-true, ltb-false}
+use Rattle.plain.specs.Search.{least}
+use Rattle.plain.specs.Table.{at}
+use Rattle.plain.proofs.Says.{by-cases, clash}
+use Rattle.plain.proofs.Least.{Least, least-has}
+use Rattle.plain.proofs.Pigeon.{pigeon}
+use Rattle.tables.specs.Tree.{climb, hub, Reaches, depthOf}
+
+pub climb-add : (up : List ℕ) (k m v : ℕ) → climb up (k + m) v ≡ climb up m (climb up k v)
+unfolding climb
+climb-add up zero m v = rw zero-add
+climb-add up (suc k) m v = rw suc-add (climb-add up k m (at up v))
+
+-- every entry is a machine
+abbrev pub Inside : List ℕ → Type 0
+Inside up = (v : ℕ) → v < length up → at up v < length up
+
+pub climb-in : (up : List ℕ) → Inside up → (k v : ℕ) → v < length up → climb up k v < length up
+unfolding climb
+climb-in up w zero v h = h
+climb-in up w (suc k) v h = climb-in up w k (at up v) (w v h)
+
+-- the test of k steps
+abbrev at-hub : List ℕ → ℕ → ℕ → Bool
+at-hub up v k = eqb (climb up k v) (hub up)
+
+module _ (up : List ℕ) (v : ℕ) (w : Inside up) (h : v < length up) where
+  -- no shortest climb has n steps: it would come by one machine twice, and be shorter by what lies between
+  shortest : (d : ℕ) → climb up d v ≡ hub up → ((k : ℕ) → k < d → at-hub up v k ≡ false) → d < length up
+  shortest d e none = by-cases (ltb d (length up)) (ltb-true d (length up)) λ t.
+      let l = ltb-false d (length up) t in
+      absurd (pigeon (length up) (λ k. climb up k v) (λ k _. climb-in up w k v h) (λ i j b c q.
+          let m : j + (d - j) ≡ d = omega arith in
+          clash (eq-eqb (climb up (i + (d - j)) v) (hub up)
+          (climb-add up i (d - j) v ∙ ap (climb up (d - j)) q ∙ sym (climb-add up j (d - j) v) ∙ ap (λ k. climb up k v) m ∙ e))
+          (none (i + (d - j)) (omega arith))))
+
+  -- a machine that reaches the hub does so in fewer than n steps
+  pub reaches-soon : Reaches up v → depthOf up v < length up
+  unfolding depthOf
+  reaches-soon (k, e) =
+      let n = length up in
+      let p = at-hub up v in
+      let l : Least k p (least k p) = least-has k p in
+      let m : climb up (least k p) v ≡ hub up = by-cases (ltb (least k p) k)
+      (λ t. eqb-true _ _ (l .here (ltb-true _ _ t)))
+      (λ t. let q : least k p ≡ k = omega (arith, l .le, ltb-false (least k p) k t) in rw q e) in
+      let s = shortest (least k p) m (l .before) in
+      by-cases (ltb (least n p) n) (ltb-true _ _) λ t.
+      let b = ltb-false (least n p) n t in
+      clash (eq-eqb (climb up (least k p) v) (hub up) m) (least-has n p .before (least k p) (omega arith))
+
+pub soon-reaches : (up : List ℕ) (v : ℕ) → depthOf up v < length up → Reaches up v
+unfolding depthOf
+soon-reaches up v h = let n = length up in let p = at-hub up v in (least n p, eqb-true _ _ (least-has n p .here h))

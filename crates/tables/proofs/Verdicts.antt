@@ -1,0 +1,77 @@
+-- What a verdict tells: checks that refuse nothing have each passed, and a refusal is that of the first check that refuses.
+use mathlib.Core.Path.{_≡_, refl}
+use mathlib.Core.Bool.{Bool, true, false, cond}
+use mathlib.Core.List.{List, [], _∷_}
+use mathlib.Core.Logic.{_⊎_, inl, inr}
+use Prim.Native.Nat.{ℕ, _<_}
+use native.Mathlib.Omega.{arith}
+use lib.Dec.{ltb}
+use borrow.Author.Tests.{ltb-true, ltb-false, le-ltb}
+use Rattle.plain.specs.Search.{least}
+use Rattle.plain.proofs.Says.{by-cases}
+use Rattle.plain.proofs.Least.{least-is, least-has}
+use Rattle.tables.specs.Verdict.{Verdict, Sound, Refused, checks, unless, refuseLeast}
+
+pub not-both : {A : Type 0} {c v : ℕ} {r : Verdict} → r ≡ Refused c v → r ≡ Sound → A
+not-both e f = let z : _≡_ {A = ℕ} 0 1 = cc in absurd (omega arith)
+
+abbrev pub AllSound : List Verdict → Type 0
+AllSound [] = Unit
+AllSound (v ∷ vs) = (v ≡ Sound) × AllSound vs
+
+pub all-sound : (vs : List Verdict) → checks vs ≡ Sound → AllSound vs
+unfolding checks
+all-sound [] e = tt
+all-sound (Sound ∷ vs) e = (refl, all-sound vs e)
+all-sound (Refused c v ∷ vs) e = not-both refl e
+
+pub sound-all : (vs : List Verdict) → AllSound vs → checks vs ≡ Sound
+unfolding checks
+sound-all [] a = refl
+sound-all (v ∷ vs) a = rw (a .0) (sound-all vs (a .1))
+
+-- the first check refuses, or it passes and a later one does
+pub first-refused : {c p : ℕ} (v : Verdict) (vs : List Verdict) → checks (v ∷ vs) ≡ Refused c p → (v ≡ Refused c p) ⊎ ((v ≡ Sound) × (checks vs ≡ Refused c p))
+unfolding checks
+first-refused Sound vs e = inr (refl, e)
+first-refused (Refused c v) vs e = inl e
+
+pub no-check : {A : Type 0} {c v : ℕ} → checks [] ≡ Refused c v → A
+unfolding checks
+no-check e = not-both e refl
+
+pub unless-sound : (b : Bool) (c v : ℕ) → unless b c v ≡ Sound → b ≡ true
+unless-sound true c v e = refl
+unless-sound false c v e = not-both refl e
+
+pub cond-refused : (b : Bool) (c v : ℕ) (r : Verdict) → cond b (Refused c v) r ≡ Sound → (b ≡ false) × (r ≡ Sound)
+cond-refused true c v r e = not-both refl e
+cond-refused false c v r e = (refl, e)
+
+pub none-refused : (code n : ℕ) (p : ℕ → Bool) → refuseLeast code n p ≡ Sound → (k : ℕ) → k < n → p k ≡ false
+unfolding refuseLeast
+none-refused code n p e k h = let l = ltb-false (least n p) n (cond-refused _ _ _ _ e .0) in least-has n p .before k (omega arith)
+
+pub refuse-none : (code n : ℕ) (p : ℕ → Bool) → ((k : ℕ) → k < n → p k ≡ false) → refuseLeast code n p ≡ Sound
+unfolding refuseLeast
+refuse-none code n p f =
+    let e : least n p ≡ n = least-is n p n (record { le = omega arith; before = f; here = λ h. absurd (omega arith) }) in
+    rw (e, le-ltb n n (omega arith))
+
+-- what a refusal by the least machine tells
+pub record RefusedAt (code n : ℕ) (p : ℕ → Bool) (c v : ℕ) : Type 0 where
+  pub number : c ≡ code
+  pub machine : v < n
+  pub fails : p v ≡ true
+  pub before : (u : ℕ) → u < v → p u ≡ false
+
+pub refused-at : (code n : ℕ) (p : ℕ → Bool) {c v : ℕ} → refuseLeast code n p ≡ Refused c v → RefusedAt code n p c v
+unfolding refuseLeast
+refused-at code n p {c} {v} e = by-cases (ltb (least n p) n)
+    (λ t.
+        let f : Refused code (least n p) ≡ Refused c v = rw t at e in
+        let k : v ≡ least n p = cc in
+        let l = least-has n p in
+        let h = ltb-true (least n p) n t in
+        record { number = cc; machine = rw k h; fails = rw k (l .here h); before = rw k (l .before) })
+    (λ t. let f : Sound ≡ Refused c v = rw t at e in not-both f refl)
