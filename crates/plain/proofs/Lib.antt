@@ -4,3 +4,5 @@ pub mod Tabulate
 pub mod Count
 pub mod Pigeon
 pub mod Decide
+pub mod Fill
+pub mod Loops

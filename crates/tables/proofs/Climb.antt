@@ -39,10 +39,10 @@ module _ (up : List ℕ) (v : ℕ) (w : Inside up) (h : v < length up) where
   shortest d e none = by-cases (ltb d (length up)) (ltb-true d (length up)) λ t.
       let l = ltb-false d (length up) t in
       absurd (pigeon (length up) (λ k. climb up k v) (λ k _. climb-in up w k v h) (λ i j b c q.
-          let m : j + (d - j) ≡ d = omega arith in
-          clash (eq-eqb (climb up (i + (d - j)) v) (hub up)
-          (climb-add up i (d - j) v ∙ ap (climb up (d - j)) q ∙ sym (climb-add up j (d - j) v) ∙ ap (λ k. climb up k v) m ∙ e))
-          (none (i + (d - j)) (omega arith))))
+      let m : j + (d - j) ≡ d = omega arith in
+      clash (eq-eqb (climb up (i + (d - j)) v) (hub up)
+      (climb-add up i (d - j) v ∙ ap (climb up (d - j)) q ∙ sym (climb-add up j (d - j) v) ∙ ap (λ k. climb up k v) m ∙ e))
+      (none (i + (d - j)) (omega arith))))
 
   -- a machine that reaches the hub does so in fewer than n steps
   pub reaches-soon : Reaches up v → depthOf up v < length up

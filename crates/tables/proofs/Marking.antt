@@ -66,4 +66,3 @@ module _ {up : List ℕ} (s : SoundTree up) {a b : ℕ} (h : a < length up) (l :
     where
       each : (x : ℕ) → x < length up → at (tabulate (length up) (λ x. max (at m x) (due up a b x))) x ≡ max (at m x) (due up a b x)
       each x i = at-tabulate (length up) (λ x. max (at m x) (due up a b x)) x i
-

@@ -27,7 +27,6 @@ use Rattle.tables.specs.Demand1.{SoundTree}
 use Rattle.tables.proofs.Sound.{rooted}
 use Rattle.tables.proofs.Told.{Told, Named, group-up}
 use Rattle.tables.proofs.Lines.{meets, below-is}
-
 use Rattle.rings.proofs.More.{group-map}
 use Rattle.plain.proofs.Tabulate.{at-map}
 use Rattle.tables.proofs.Marking.{Either, listed-cons, listed-more, marked-more}

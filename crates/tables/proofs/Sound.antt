@@ -75,9 +75,13 @@ module _ {up : List ℕ} (s : SoundTree up) where
   unfolding treeVerdict
   tree-sound = let n = length up in sound-all _ (
     refuse-none 3 n (λ v. leb n (at up v)) (λ v h. lt-leb n (at up v) (s .inside v h)),
-    (rw (lt-ltb (hub up) n (s .hub-in)) refl,
-    (refuse-none 4 n (λ v. ltb (hub up) v && eqb (at up v) v) (λ v h. refutes (second? up v) (λ k. omega (arith, k .0, s .only v h (k .1)))),
-    (refuse-none 5 n (λ v. leb n (depthOf up v)) (λ v h. lt-leb n (depthOf up v) (soon v h)), tt))),
+    (
+      rw (lt-ltb (hub up) n (s .hub-in)) refl,
+      (
+        refuse-none 4 n (λ v. ltb (hub up) v && eqb (at up v) v) (λ v h. refutes (second? up v) (λ k. omega (arith, k .0, s .only v h (k .1)))),
+        (refuse-none 5 n (λ v. leb n (depthOf up v)) (λ v h. lt-leb n (depthOf up v) (soon v h)), tt),
+      ),
+    ),
   )
 
 never : (up : List ℕ) (v : ℕ) → treeVerdict up ≡ Refused 5 v → (v < length up) × (¬ Reaches up v) × ((u : ℕ) → u < v → Reaches up u)
@@ -85,18 +89,18 @@ unfolding treeVerdict
 never up v e =
     let n = length up in
     ⊎-elim (λ q. let r = refused-at 3 n (λ v. leb n (at up v)) q in absurd (omega (arith, r .number))) (λ k.
-        let w : (v : ℕ) → v < n → at up v < n = λ v h. leb-false n (at up v) (none-refused 3 n (λ v. leb n (at up v)) (k .0) v h) in
-        ⊎-elim (λ q. absurd (wrong (ltb (hub up) n) q)) (λ l.
-        ⊎-elim (λ q. let r = refused-at 4 n (λ v. ltb (hub up) v && eqb (at up v) v) q in absurd (omega (arith, r .number))) (λ m.
-        ⊎-elim (λ q.
-            let r : RefusedAt 5 n (λ v. leb n (depthOf up v)) 5 v = refused-at 5 n (λ v. leb n (depthOf up v)) q in (
-              r .machine,
-              λ t. omega (arith, leb-true n (depthOf up v) (r .fails), reaches-soon up v w (r .machine) t),
-              λ u b. soon-reaches up u (leb-false n (depthOf up u) (r .before u b)),
-            ))
-        (λ q. no-check (q .1)) (first-refused _ [] (m .1)))
-        (first-refused _ _ (l .1)))
-        (first-refused _ _ (k .1)))
+    let w : (v : ℕ) → v < n → at up v < n = λ v h. leb-false n (at up v) (none-refused 3 n (λ v. leb n (at up v)) (k .0) v h) in
+    ⊎-elim (λ q. absurd (wrong (ltb (hub up) n) q)) (λ l.
+    ⊎-elim (λ q. let r = refused-at 4 n (λ v. ltb (hub up) v && eqb (at up v) v) q in absurd (omega (arith, r .number))) (λ m.
+    ⊎-elim (λ q.
+    let r : RefusedAt 5 n (λ v. leb n (depthOf up v)) 5 v = refused-at 5 n (λ v. leb n (depthOf up v)) q in (
+      r .machine,
+      λ t. omega (arith, leb-true n (depthOf up v) (r .fails), reaches-soon up v w (r .machine) t),
+      λ u b. soon-reaches up u (leb-false n (depthOf up u) (r .before u b)),
+    ))
+    (λ q. no-check (q .1)) (first-refused _ [] (m .1)))
+    (first-refused _ _ (l .1)))
+    (first-refused _ _ (k .1)))
     (first-refused _ _ e)
   where
     wrong : (b : Bool) → unless b 4 (length up) ≡ Refused 5 v → ⊥

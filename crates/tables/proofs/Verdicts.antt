@@ -6,9 +6,10 @@ use mathlib.Core.Logic.{_⊎_, inl, inr}
 use Prim.Native.Nat.{ℕ, _<_}
 use native.Mathlib.Omega.{arith}
 use lib.Dec.{ltb}
-use borrow.Author.Tests.{ltb-true, ltb-false, le-ltb}
+use borrow.Author.Tests.{ltb-true, ltb-false, lt-ltb, le-ltb}
 use Rattle.plain.specs.Search.{least}
 use Rattle.plain.proofs.Says.{by-cases}
+use Rattle.plain.proofs.Loops.{NoneBelow}
 use Rattle.plain.proofs.Least.{least-is, least-has}
 use Rattle.tables.specs.Verdict.{Verdict, Sound, Refused, checks, unless, refuseLeast}
 
@@ -52,11 +53,16 @@ pub none-refused : (code n : ℕ) (p : ℕ → Bool) → refuseLeast code n p �
 unfolding refuseLeast
 none-refused code n p e k h = let l = ltb-false (least n p) n (cond-refused _ _ _ _ e .0) in least-has n p .before k (omega arith)
 
-pub refuse-none : (code n : ℕ) (p : ℕ → Bool) → ((k : ℕ) → k < n → p k ≡ false) → refuseLeast code n p ≡ Sound
+pub refuse-none : (code n : ℕ) (p : ℕ → Bool) → NoneBelow p n → refuseLeast code n p ≡ Sound
 unfolding refuseLeast
 refuse-none code n p f =
     let e : least n p ≡ n = least-is n p n (record { le = omega arith; before = f; here = λ h. absurd (omega arith) }) in
     rw (e, le-ltb n n (omega arith))
+
+-- a search that stops at v
+pub refuse-at : (code n : ℕ) (p : ℕ → Bool) (v : ℕ) → v < n → NoneBelow p v → p v ≡ true → refuseLeast code n p ≡ Refused code v
+unfolding refuseLeast
+refuse-at code n p v h none e = rw (least-is n p v (record { le = omega arith; before = none; here = λ _. e }), lt-ltb v n h) refl
 
 -- what a refusal by the least machine tells
 pub record RefusedAt (code n : ℕ) (p : ℕ → Bool) (c v : ℕ) : Type 0 where
@@ -69,9 +75,9 @@ pub refused-at : (code n : ℕ) (p : ℕ → Bool) {c v : ℕ} → refuseLeast c
 unfolding refuseLeast
 refused-at code n p {c} {v} e = by-cases (ltb (least n p) n)
     (λ t.
-        let f : Refused code (least n p) ≡ Refused c v = rw t at e in
-        let k : v ≡ least n p = cc in
-        let l = least-has n p in
-        let h = ltb-true (least n p) n t in
-        record { number = cc; machine = rw k h; fails = rw k (l .here h); before = rw k (l .before) })
+    let f : Refused code (least n p) ≡ Refused c v = rw t at e in
+    let k : v ≡ least n p = cc in
+    let l = least-has n p in
+    let h = ltb-true (least n p) n t in
+    record { number = cc; machine = rw k h; fails = rw k (l .here h); before = rw k (l .before) })
     (λ t. let f : Sound ≡ Refused c v = rw t at e in not-both f refl)

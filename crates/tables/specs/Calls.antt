@@ -24,5 +24,5 @@ CallsLive = (up : List ℕ) (h : History) → Lived up h → Calls up h
 
 -- 1 to 4,096 machines; an even number of numbers, at most 2,048.
 pub record Limits : Type 0 where
-  pub machines : (up : List ℕ) → (sizeVerdict up ≡ Sound) ↔ ((1 ≤ length up) × (length up ≤ 4096))
+  pub machines : (n : ℕ) → (sizeVerdict n ≡ Sound) ↔ ((1 ≤ n) × (n ≤ 4096))
   pub links : (batch : List ℕ) → (lengthVerdict batch ≡ Sound) ↔ ((length batch % 2 ≡ 0) × (length batch ≤ 2 * 1024))

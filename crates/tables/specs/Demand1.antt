@@ -42,5 +42,5 @@ pub record Untouched : Type 0 where
 
 pub record Demand1 : Type 0 where
   pub trees : TreesExact
-  pub tables-exact : (up : List ℕ) (t : Tables) → sizeVerdict up ≡ Sound → treeVerdict up ≡ Sound → checks (tableSizes up t) ≡ Sound → TablesExact up t
+  pub tables-exact : (up : List ℕ) (t : Tables) → sizeVerdict (length up) ≡ Sound → treeVerdict up ≡ Sound → checks (tableSizes up t) ≡ Sound → TablesExact up t
   pub untouched : Untouched

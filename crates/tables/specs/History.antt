@@ -37,6 +37,6 @@ Left up t = (h : History) × Accepted (length up) h × (tables up h ≡ t)
 
 -- a site that has lived: a tree that is not refused, and batches that are accepted on it
 pub record Lived (up : List ℕ) (h : History) : Type 0 where
-  pub size : sizeVerdict up ≡ Sound
+  pub size : sizeVerdict (length up) ≡ Sound
   pub tree : treeVerdict up ≡ Sound
   pub batches : Accepted (length up) h

@@ -25,7 +25,7 @@ answer (Refused code place) came value done = record { code = code; value = plac
 
 -- Start uses 1 to 5 and ignores what the three tables held. Its value is n
 unfoldable pub startVerdict : List ℕ → Tables → Verdict
-startVerdict up t = checks (sizeVerdict up ∷ checks (tableSizes up t) ∷ treeVerdict up ∷ [])
+startVerdict up t = checks (sizeVerdict (length up) ∷ checks (tableSizes up t) ∷ treeVerdict up ∷ [])
 
 unfoldable pub startOf : List ℕ → Tables → Answer Tables
 startOf up t = answer (startVerdict up t) t (length up) (fresh up)
@@ -33,7 +33,7 @@ startOf up t = answer (startVerdict up t) t (length up) (fresh up)
 -- Add uses 1 to 9. Its value is the total by which marks rose
 unfoldable pub addVerdict : List ℕ → List ℕ → Tables → Verdict
 addVerdict up batch t =
-    checks (sizeVerdict up ∷ checks (tableSizes up t) ∷ treeVerdict up ∷ rulesVerdict up t ∷ batchVerdict (length up) batch ∷ [])
+    checks (sizeVerdict (length up) ∷ checks (tableSizes up t) ∷ treeVerdict up ∷ rulesVerdict up t ∷ batchVerdict (length up) batch ∷ [])
 
 unfoldable pub addOf : List ℕ → List ℕ → Tables → Answer Tables
 addOf up batch t =
@@ -48,7 +48,7 @@ pub record Bytes : Type 0 where
 -- Report uses 1 to 6 and ignores what its outputs held. Its value is the number of nonzero machine bytes
 unfoldable pub reportVerdict : List ℕ → Tables → Bytes → Verdict
 reportVerdict up t o =
-    checks (sizeVerdict up ∷ checks (tableSizes up t ++ (sized 4 (o .machines) up ∷ sized 5 (o .links) up ∷ [])) ∷ treeVerdict up ∷ rulesVerdict up t ∷ [])
+    checks (sizeVerdict (length up) ∷ checks (tableSizes up t ++ (sized 4 (length (o .machines)) (length up) ∷ sized 5 (length (o .links)) (length up) ∷ [])) ∷ treeVerdict up ∷ rulesVerdict up t ∷ [])
 
 -- how many bytes are not 0
 unfoldable pub named : List ℕ → ℕ

@@ -17,8 +17,9 @@ unfoldable pub fresh : List ℕ → Tables
 fresh up = record { depth = tabulate (length up) (depthOf up); group = tabulate (length up) (λ v. v); mark = replicate (length up) 0 }
 
 -- code 2: the slice of that number has a length other than n
-abbrev pub sized : ℕ → List ℕ → List ℕ → Verdict
-sized which slice up = unless (eqb (length slice) (length up)) 2 which
+abbrev pub sized : ℕ → ℕ → ℕ → Verdict
+sized which size n = unless (eqb size n) 2 which
 
 unfoldable pub tableSizes : List ℕ → Tables → List Verdict
-tableSizes up t = sized 1 (t .depth) up ∷ sized 2 (t .group) up ∷ sized 3 (t .mark) up ∷ []
+tableSizes up t =
+    sized 1 (length (t .depth)) (length up) ∷ sized 2 (length (t .group)) (length up) ∷ sized 3 (length (t .mark)) (length up) ∷ []

@@ -32,8 +32,8 @@ unfoldable pub depthOf : List ℕ → ℕ → ℕ
 depthOf up v = least (length up) (λ k. eqb (climb up k v) (hub up))
 
 -- code 1: up has length 0 or over 4,096
-unfoldable pub sizeVerdict : List ℕ → Verdict
-sizeVerdict up = unless (ltb 0 (length up) && leb (length up) mostMachines) 1 (length up)
+unfoldable pub sizeVerdict : ℕ → Verdict
+sizeVerdict n = unless (ltb 0 n && leb n mostMachines) 1 n
 
 -- 3: an up entry is n or more; 4: hubs are not exactly one; 5: a machine never reaches the hub
 unfoldable pub treeVerdict : List ℕ → Verdict
