@@ -1,14 +1,16 @@
 -- Cables counted and taken out. Counting and taking out both go along the list, so each law is an induction over it with a case on each cable.
-use mathlib.Core.Path.{_≡_, refl, sym}
-use mathlib.Core.Bool.{true, false}
+use mathlib.Core.Path.{_≡_, refl, sym, ap, _∙_}
+use mathlib.Core.Bool.{true, false, _&&_, or-comm}
 use mathlib.Core.List.{[], _∷_, _++_}
 use mathlib.Core.Logic.{_⊎_, inl, inr, ⊎-elim, ⊎-map, _↔_}
 use Prim.Native.Nat.{ℕ, suc, _+_, _≤_, _<_}
 use native.Mathlib.Omega.{arith}
+use lib.Dec.{eqb}
 use Rattle.plain.specs.Member.{_∈_}
 use Rattle.plain.proofs.Says.{Says, says-eq, says-and, says-or, by-cases, refutes}
 use Rattle.plain.proofs.Decide.{or?, member?, pair?}
-use Rattle.graph.specs.Cable.{Cables, Within, Linked, joins, between, less}
+use Rattle.graph.specs.Cable.{Cables, Within, Linked, joins, between, less, ChokePair}
+use Rattle.graph.proofs.Walks.{back}
 use Rattle.graph.proofs.Members.{here, there, parts, on-left, on-right}
 
 pub flip : (E : Cables) (a b : ℕ) → Linked E a b → Linked E b a
@@ -30,7 +32,7 @@ linked-append E F a b = (
 abbrev pub Same : ℕ → ℕ → ℕ → ℕ → Type 0
 Same a b x y = ((x ≡ a) × (y ≡ b)) ⊎ ((x ≡ b) × (y ≡ a))
 
-says-joins : (a b x y : ℕ) → Says (joins a b (x, y)) (Same a b x y)
+pub says-joins : (a b x y : ℕ) → Says (joins a b (x, y)) (Same a b x y)
 unfolding joins
 says-joins a b x y = says-or (says-and (says-eq x a) (says-eq y b)) (says-and (says-eq x b) (says-eq y a))
 
@@ -51,8 +53,41 @@ found (p ∷ E) a b h = by-cases (joins a b p)
 pub linked-between : (E : Cables) (a b : ℕ) → Linked E a b ↔ (1 ≤ between E a b)
 linked-between E a b = (⊎-elim (counted E a b (says-joins a b a b .takes (inl (refl, refl)))) (counted E a b (says-joins a b b a .takes (inr (refl, refl)))), found E a b)
 
+pub between-append : (E F : Cables) (a b : ℕ) → between (E ++ F) a b ≡ between E a b + between F a b
+unfolding between
+between-append [] F a b = omega arith
+between-append (p ∷ E) F a b = omega (arith, between-append E F a b)
+
+-- the ends may be named either way round
+joins-turn : (a b : ℕ) (p : ℕ × ℕ) → joins a b p ≡ joins b a p
+unfolding joins
+joins-turn a b p = or-comm (eqb (p .0) a && eqb (p .1) b) (eqb (p .0) b && eqb (p .1) a)
+
+between-turn : (E : Cables) (a b : ℕ) → between E a b ≡ between E b a
+unfolding between
+between-turn [] a b = refl
+between-turn (p ∷ E) a b = rw (joins-turn a b p, between-turn E a b) refl
+
+less-turn : (E : Cables) (a b : ℕ) → less E a b ≡ less E b a
+unfolding less
+less-turn [] a b = refl
+less-turn (p ∷ E) a b = rw (joins-turn a b p, less-turn E a b) refl
+
+pub pair-turn : (E : Cables) (a b : ℕ) → ChokePair E a b → ChokePair E b a
+pair-turn E a b c = record {
+  single = between-turn E b a ∙ c .single;
+  parted = λ w. c .parted (rw (less-turn E a b) (back (flip (less E b a)) w));
+}
+
+-- of two lists the first is looked through first
+pub less-append : (E F : Cables) (a b : ℕ) → 1 ≤ between E a b → less (E ++ F) a b ≡ less E a b ++ F
+unfolding between less
+less-append [] F a b h = absurd (omega arith)
+less-append (p ∷ E) F a b h = by-cases (joins a b p) (λ e. rw e refl)
+    (λ e. let h′ : 1 ≤ 0 + between E a b = rw e at h in rw e (ap (λ l. p ∷ l) (less-append E F a b (omega arith))))
+
 -- one is taken out, where there is one
-less-between : {k : ℕ} (E : Cables) (a b : ℕ) → between E a b ≡ suc k → between (less E a b) a b ≡ k
+pub less-between : {k : ℕ} (E : Cables) (a b : ℕ) → between E a b ≡ suc k → between (less E a b) a b ≡ k
 unfolding between less
 less-between [] a b h = absurd (omega arith)
 less-between {k} (p ∷ E) a b h = by-cases (joins a b p)
@@ -63,7 +98,7 @@ less-between {k} (p ∷ E) a b h = by-cases (joins a b p)
 pub less-lone : (E : Cables) (a b : ℕ) → between E a b ≡ 1 → ¬ Linked (less E a b) a b
 less-lone E a b e l = omega (arith, linked-between (less E a b) a b .0 l, less-between E a b e)
 
-less-in : {p : ℕ × ℕ} (E : Cables) (a b : ℕ) → p ∈ less E a b → p ∈ E
+pub less-in : {p : ℕ × ℕ} (E : Cables) (a b : ℕ) → p ∈ less E a b → p ∈ E
 unfolding less
 less-in [] a b h = h
 less-in {p} (q ∷ E) a b h = by-cases (joins a b q)

@@ -1,4 +1,5 @@
 pub mod Walks
+pub mod Chokes
 pub mod Reach
 pub mod Members
 pub mod Paths

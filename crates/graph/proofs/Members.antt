@@ -1,7 +1,7 @@
 -- What stands on a list: the library's laws under short names, and machines told on or off a list by looking.
 pub use mathlib.Core.List.{List·Memᴰ·head as here, List·Memᴰ·tail as there, List·Memᴰ·not-nil as empty, List·Memᴰ·cases-cons as cases, List·Memᴰ·eq-of-singleton as single, List·Memᴰ·append-cases as parts, Memᴰ·cast as cast, Memᴰ·append-left as on-left, Memᴰ·append-right as on-right}
 use mathlib.Core.Path.{_≡_, sym}
-use mathlib.Core.List.{List, [], _∷_}
+use mathlib.Core.List.{List, _∷_}
 use mathlib.Core.Logic.{_≢_}
 use native.Mathlib.Decide.{ℕ-discrete}
 use Prim.Native.Nat.{ℕ}

@@ -1,6 +1,6 @@
 -- For loops that count up: what a search and a count say with one number more at the end.
 use mathlib.Core.Path.{_≡_, refl, sym, ap, _∙_}
-use mathlib.Core.Bool.{Bool, true, false, cond, _||_, or-assoc}
+use mathlib.Core.Bool.{Bool, true, false, cond, _||_, or-assoc, or-true, or-false}
 use Prim.Native.Nat.{ℕ, zero, suc, _+_, _<_}
 use native.Mathlib.Omega.{arith}
 use borrow.Author.Count.{below-more}
@@ -15,11 +15,7 @@ none-more p i none e = below-more (λ k. p k ≡ false) i none e
 
 pub some-more : (n : ℕ) (p : ℕ → Bool) → some (suc n) p ≡ (some n p || p n)
 unfolding some
-some-more zero p = go (p zero)
-  where
-    go : (b : Bool) → (b || false) ≡ b
-    go true = refl
-    go false = refl
+some-more zero p = or-false (p zero)
 some-more (suc n) p = ap (λ b. p zero || b) (some-more n (λ k. p (suc k))) ∙ sym (or-assoc (p zero) (some n (λ k. p (suc k))) (p (suc n)))
 
 -- where p fails everywhere there is none, and where it holds once there is some
@@ -33,10 +29,6 @@ unfolding some
 some-at zero p i h e = absurd (omega arith)
 some-at (suc n) p zero h e = rw e refl
 some-at (suc n) p (suc i) h e = rw (some-at n (λ k. p (suc k)) i (omega arith) e) (or-true (p zero))
-  where
-    or-true : (b : Bool) → (b || true) ≡ true
-    or-true true = refl
-    or-true false = refl
 
 pub count-more : (n : ℕ) (p : ℕ → Bool) → count (suc n) p ≡ count n p + cond (p n) 1 0
 unfolding count

@@ -1,6 +1,7 @@
 -- More links keep what fewer give: escapes, joins, groups and walks. So what more links part, fewer part.
 use Prim.Native.Nat.{ℕ}
 use Rattle.graph.specs.Walk.{Relation}
+use Rattle.graph.proofs.Chokes.{fewer-chokes}
 use Rattle.graph.proofs.Walks.{map}
 use Rattle.rings.specs.Tree.{Tree}
 use Rattle.rings.specs.Network.{Cable, rising, falling, cross}
@@ -34,14 +35,6 @@ cable-map f a b (cross l) = cross (f a b l)
 
 pub further-links : FurtherLinks
 further-links T L M f = record {
-  machine = λ w k. record {
-    one = k .one;
-    two = k .two;
-    one-in = k .one-in;
-    two-in = k .two-in;
-    one-other = k .one-other;
-    two-other = k .two-other;
-    parted = λ p. k .parted (map (λ a b s. (s .0, s .1, cable-map f a b (s .2))) p);
-  };
+  machine = λ w. fewer-chokes (cable-map f);
   uplink = λ v w q p. q (map (cable-map f) p);
 }

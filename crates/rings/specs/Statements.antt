@@ -1,6 +1,6 @@
 -- What is proved of a tree with cross links, as statements: its chokes are read off rings and groups. Their proofs are in proofs/.
 use mathlib.Core.Logic.{_≢_, _↔_}
-use Prim.Native.Nat.{ℕ, _<_}
+use Prim.Native.Nat.{ℕ}
 use Rattle.graph.specs.Walk.{Relation, Walk}
 use Rattle.graph.specs.Choke.{Choke}
 use Rattle.rings.specs.Tree.{Tree, Uplink}

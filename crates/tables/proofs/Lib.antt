@@ -10,4 +10,11 @@ pub mod Histories
 pub mod Kept
 pub mod Wanted
 pub mod Complete
+pub mod Reports
+pub mod Cabling
+pub mod Laws
+pub mod Calls
+pub mod Demand1
+pub mod Demand2
+pub mod Demand3
 pub mod Worked

@@ -64,6 +64,10 @@ pub refuse-at : (code n : ℕ) (p : ℕ → Bool) (v : ℕ) → v < n → NoneBe
 unfolding refuseLeast
 refuse-at code n p v h none e = rw (least-is n p v (record { le = omega arith; before = none; here = λ _. e }), lt-ltb v n h) refl
 
+pub refuse-view : (code n : ℕ) (p : ℕ → Bool) → (refuseLeast code n p ≡ Sound) ⊎ ((v : ℕ) × (refuseLeast code n p ≡ Refused code v))
+unfolding refuseLeast
+refuse-view code n p = by-cases (ltb (least n p) n) (λ t. inr (least n p, rw t refl)) (λ t. inl (rw t refl))
+
 -- what a refusal by the least machine tells
 pub record RefusedAt (code n : ℕ) (p : ℕ → Bool) (c v : ℕ) : Type 0 where
   pub number : c ≡ code

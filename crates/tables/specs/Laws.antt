@@ -1,11 +1,10 @@
 -- What a link and a run of links do, as laws: the tables depend on the set of links alone.
 use mathlib.Core.Path.{_≡_}
-use mathlib.Core.Bool.{true, _&&_, not}
+use mathlib.Core.Bool.{true}
 use mathlib.Core.List.{List, [], _∷_}
 use mathlib.Core.Logic.{_≢_, _⊎_, _↔_}
 use Prim.Native.Nat.{ℕ, _<_, _≤_, max}
 use lib.ListN.{length}
-use lib.Dec.{eqb}
 use Rattle.plain.specs.Table.{at}
 use Rattle.graph.specs.Cable.{Cables, Linked}
 use Rattle.rings.specs.Ring.{Rings, Carries}

@@ -1,5 +1,5 @@
 -- The sites worked by hand: P1 to P12, then a row for every code and each kind of its value, for Start, Add and Report, and for which check goes first.
-use mathlib.Core.List.{List, [], _∷_, _++_, map}
+use mathlib.Core.List.{List, [], _∷_, map}
 use mathlib.Core.Path.{_≡_}
 use Prim.Native.Nat.{ℕ, zero, suc}
 use lib.ListN.{length, replicate}
