@@ -1,18 +1,16 @@
--- The calls over the tables of a history: no rule is broken and every length is right, so only the batch can be refused. Marks never fall.
+-- The calls over the tables of a history: no rule is broken and every length is right, so only the batch can be refused.
 use mathlib.Core.Path.{_≡_, refl, ap, _∙_}
 use mathlib.Core.List.{List, [], _∷_, _++_}
-use Prim.Native.Nat.{ℕ, suc, _*_, _%_, _≤_, max}
+use Prim.Native.Nat.{ℕ, _+_, _-_, _*_, _%_}
 use native.Mathlib.Omega.{arith}
 use lib.ListN.{length}
 use borrow.Author.Tests.{eq-eqb}
-use Rattle.plain.specs.Table.{at, tabulate, total}
+use Rattle.plain.specs.Table.{total}
 use Rattle.plain.proofs.Says.{says-lt, says-le, says-eq, says-and}
 use Rattle.plain.proofs.Tabulate.{length-tabulate}
-use Rattle.graph.specs.Cable.{Cables}
 use Rattle.tables.specs.Verdict.{Verdict, Sound, Refused, checks}
 use Rattle.tables.specs.Tree.{depthOf, sizeVerdict}
 use Rattle.tables.specs.Tables.{Tables, fresh, tableSizes}
-use Rattle.tables.specs.Link.{due, raised, linked}
 use Rattle.tables.specs.Batch.{pairs, lengthVerdict, batchVerdict, after, rise}
 use Rattle.tables.specs.History.{History, Accepted, links, leaves, tables}
 use Rattle.tables.specs.Rules.{rulesVerdict}
@@ -22,6 +20,7 @@ use Rattle.tables.specs.Calls.{CallsLive, Limits}
 use Rattle.tables.proofs.Verdicts.{unless-sound}
 use Rattle.tables.proofs.Sound.{sound-tree}
 use Rattle.tables.proofs.Histories.{network, links-good, told}
+use Rattle.tables.proofs.Rise.{rise-is}
 use Rattle.tables.proofs.Kept.{told-kept, kept-sound}
 
 module _ {up : List ℕ} {h : History} (s : SoundTree up) (f : Accepted (length up) h) where
@@ -48,30 +47,21 @@ unfolding leaves
 leaves-append up [] batch t = refl
 leaves-append up (b ∷ h) batch t = leaves-append up h batch (after up (pairs b) t)
 
-total-max : (l : List ℕ) (f : ℕ → ℕ) → total l ≤ total (tabulate (length l) (λ x. max (at l x) (f x)))
-unfolding total tabulate
-total-max [] f = omega arith
-total-max (m ∷ l) f = omega (arith, total-max l (λ x. f (suc x)))
-
-total-after : (up : List ℕ) (l : Cables) (t : Tables) → length (t .mark) ≡ length up → total (t .mark) ≤ total (after up l t .mark)
-unfolding after linked raised
-total-after up [] t e = omega arith
-total-after up (p ∷ l) t e =
-    let r = rw e at (total-max (t .mark) (due up (p .0) (p .1))) in
-    let i = total-after up l (linked up (p .0) (p .1) t) (length-tabulate (length up) (λ x. max (at (t .mark) x) (due up (p .0) (p .1) x))) in
-    omega arith
-
 pub calls-live : CallsLive
-unfolding startOf startVerdict addOf addVerdict checks leaves
+unfolding answer startOf startVerdict addOf addVerdict checks leaves
 calls-live up h l =
     let s = sound-tree up (l .tree) in
     let z = sizes-met s (l .batches) in
     let r = rules-met s (l .batches) in
+    let rose : (batch : List ℕ) → rise (tables up h) (after up (pairs batch) (tables up h)) + total (tables up h .mark) ≡ total (after up (pairs batch) (tables up h) .mark) =
+    λ batch. rise-is up (pairs batch) (tables up h) (told s h (l .batches) .marked .size) in
     record {
       start = λ t e. rw (l .size, e, l .tree);
       add = λ batch. rw (l .size, z, l .tree, r, leaves-append up h batch (fresh up))
-          (let t = after up (pairs batch) (tables up h) in ap (λ v. answer v (tables up h) (rise (tables up h) t) t) (checks-one (batchVerdict (length up) batch)));
-      rises = λ batch. rw (leaves-append up h batch (fresh up)) (total-after up (pairs batch) (tables up h) (told s h (l .batches) .marked .size));
+          (let t = after up (pairs batch) (tables up h) in
+          let e : rise (tables up h) t ≡ total (t .mark) - total (tables up h .mark) = omega (arith, rose batch) in
+          rw e (ap (λ v. answer v (tables up h) (total (t .mark) - total (tables up h .mark)) t) (checks-one (batchVerdict (length up) batch))));
+      rises = λ batch. rw (leaves-append up h batch (fresh up)) (omega (arith, rose batch));
     }
 
 pub limits : Limits

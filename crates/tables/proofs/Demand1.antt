@@ -13,12 +13,11 @@ use Rattle.plain.proofs.Says.{by-cases}
 use Rattle.graph.specs.Cable.{Cables}
 use Rattle.tables.specs.Verdict.{Verdict, Sound, Refused, checks, unless}
 use Rattle.tables.specs.Tree.{treeVerdict, sizeVerdict}
-use Rattle.tables.specs.Tables.{Tables, fresh, tableSizes}
-use Rattle.tables.specs.Batch.{mostLinks, pairs, lengthVerdict, endsVerdict, batchVerdict, after, rise}
+use Rattle.tables.specs.Tables.{Tables, tableSizes}
+use Rattle.tables.specs.Batch.{mostLinks, pairs, lengthVerdict, endsVerdict, batchVerdict}
 use Rattle.tables.specs.History.{Left}
 use Rattle.tables.specs.Rules.{breaks, rulesVerdict}
-use Rattle.tables.specs.Report.{machineBytes, linkBytes}
-use Rattle.tables.specs.Outcome.{answer, Bytes, named, startVerdict, startOf, addVerdict, addOf, reportVerdict, reportOf}
+use Rattle.tables.specs.Outcome.{answer, Bytes, startOf, addVerdict, addOf, reportVerdict, reportOf}
 use Rattle.tables.specs.Demand1.{TablesExact, Demand1}
 use Rattle.tables.proofs.Verdicts.{not-both, no-check, all-sound, first-refused, unless-sound, refuse-view, refused-at}
 use Rattle.tables.proofs.Sound.{sound-tree, trees-exact}
@@ -62,17 +61,19 @@ batch-code n batch e = ⊎-elim
 
 -- what follows the rules does not answer 6
 answer-code : {A : Type 0} (v : Verdict) (came : A) (value : ℕ) (done : A) → ((c p : ℕ) → v ≡ Refused c p → c ≢ 6) → answer v came value done .code ≢ 6
+unfolding answer
 answer-code Sound came value done f e = omega arith
 answer-code (Refused c p) came value done f e = f c p refl e
 
 answer-untouched : {A : Type 0} (v : Verdict) (came : A) (value : ℕ) (done : A) → answer v came value done .code ≢ 0 → answer v came value done .lent ≡ came
+unfolding answer
 answer-untouched Sound came value done o = absurd (o refl)
 answer-untouched (Refused c p) came value done o = refl
 
 module _ (up : List ℕ) (t : Tables) (n : sizeVerdict (length up) ≡ Sound) (e : treeVerdict up ≡ Sound) (z : checks (tableSizes up t) ≡ Sound) where
   exactly : {A : Type 0} (came : A) (value : ℕ) (done : A) (v : Verdict) (vs : List Verdict) → v ≡ checks (rulesVerdict up t ∷ vs)
       → ((c p : ℕ) → checks vs ≡ Refused c p → c ≢ 6) → (answer v came value done .code ≡ 6) ↔ (¬ Left up t)
-  unfolding checks
+  unfolding checks answer
   exactly came value done v vs q f =
       let k = rules-exact up t e z in
       ⊎-elim
@@ -107,8 +108,8 @@ demand1 = record {
   trees = trees-exact;
   tables-exact = tables-exact;
   untouched = record {
-    start = λ up t. answer-untouched (startVerdict up t) t (length up) (fresh up);
-    add = λ up batch t. let t′ = after up (pairs batch) t in answer-untouched (addVerdict up batch t) t (rise t t′) t′;
-    report = λ up t o. answer-untouched (reportVerdict up t o) o (named (machineBytes up t)) (record { machines = machineBytes up t; links = linkBytes up t });
+    start = λ up t. answer-untouched _ _ _ _;
+    add = λ up batch t. answer-untouched _ _ _ _;
+    report = λ up t o. answer-untouched _ _ _ _;
   };
 }

@@ -15,7 +15,7 @@ use Rattle.tables.specs.Verdict.{Sound, checks}
 use Rattle.tables.specs.Tables.{tableSizes}
 use Rattle.tables.specs.History.{History, Lived, links, tables}
 use Rattle.tables.specs.Report.{machineByte, linkByte, machineBytes, linkBytes}
-use Rattle.tables.specs.Outcome.{Bytes, reportVerdict, reportOf}
+use Rattle.tables.specs.Outcome.{answer, Bytes, reportVerdict, reportOf}
 use Rattle.tables.specs.Demand2.{Reported, CrossSpare, Demand2}
 use Rattle.tables.proofs.Verdicts.{all-sound}
 use Rattle.tables.proofs.Sound.{sound-tree, rooted}
@@ -44,7 +44,7 @@ report-done up h l o a b =
 
 reports : (up : List ℕ) (h : History) → Lived up h → (o : Bytes) → length (o .machines) ≡ length up → length (o .links) ≡ length up
     → Reported up h (reportOf up (tables up h) o)
-unfolding reportOf machineBytes linkBytes
+unfolding answer reportOf machineBytes linkBytes
 reports up h l o a b =
     let t = tables up h in
     let s = sound-tree up (l .tree) in

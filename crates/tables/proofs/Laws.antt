@@ -1,22 +1,20 @@
 -- The laws of a link and of runs of links. Marks are a maximum over the links, so they are read off by induction; the rest is what the tables tell.
 use mathlib.Core.Path.{_≡_, sym, ap, _∙_}
-use mathlib.Core.List.{List, [], _∷_}
+use mathlib.Core.List.{List}
 use mathlib.Core.Logic.{⊎-map}
-use Prim.Native.Nat.{ℕ, _<_, max}
+use Prim.Native.Nat.{ℕ, _<_}
 use native.Mathlib.Omega.{arith}
 use lib.ListN.{length, replicate, getD-replicate}
 use Rattle.plain.specs.Table.{at}
 use Rattle.plain.proofs.Says.{says-and, says-or}
-use Rattle.plain.proofs.Tabulate.{at-tabulate}
-use Rattle.graph.specs.Cable.{Cables}
-use Rattle.tables.specs.Tables.{Tables, fresh}
-use Rattle.tables.specs.Link.{meet, ring, due, raised, linked}
-use Rattle.tables.specs.Batch.{after}
+use Rattle.tables.specs.Tables.{fresh}
+use Rattle.tables.specs.Link.{meet, ring}
 use Rattle.tables.specs.History.{History, links, tables}
 use Rattle.tables.specs.Laws.{RingLines, greatest, TablesTell, OrderFree}
 use Rattle.tables.proofs.Sound.{sound-tree}
 use Rattle.tables.proofs.Lines.{says-over}
 use Rattle.tables.proofs.Dues.{on-is}
+use Rattle.tables.proofs.Rise.{after-marks}
 use Rattle.tables.proofs.Told.{told-map, told-one, group-name, group-law}
 use Rattle.tables.proofs.Histories.{network, links-good, leaves-after, told}
 
@@ -33,12 +31,6 @@ ring-lines up e a b x h k l =
           let (i, ne) = o .1 (⊎-map (λ u. (p .gives (u .0), λ f. u .1 (q .takes f))) (λ u. (q .gives (u .0), λ f. u .1 (p .takes f))) d) in
           (r .takes i, ne),
     )
-
-after-marks : (up : List ℕ) (l : Cables) (t : Tables) (x : ℕ) → x < length up → at (after up l t .mark) x ≡ max (at (t .mark) x) (greatest up l x)
-unfolding after linked raised greatest
-after-marks up [] t x h = omega arith
-after-marks up (p ∷ l) t x h =
-    omega (arith, after-marks up l (linked up (p .0) (p .1) t) x h, at-tabulate (length up) (λ x. max (at (t .mark) x) (due up (p .0) (p .1) x)) x h)
 
 fresh-marks : (up : List ℕ) (h : History) (x : ℕ) → x < length up → at (tables up h .mark) x ≡ greatest up (links h) x
 unfolding fresh

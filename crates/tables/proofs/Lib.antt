@@ -12,6 +12,7 @@ pub mod Wanted
 pub mod Complete
 pub mod Reports
 pub mod Cabling
+pub mod Rise
 pub mod Laws
 pub mod Calls
 pub mod Demand1

@@ -4,7 +4,7 @@ use mathlib.Core.List.{List, [], _∷_}
 use Prim.Native.Nat.{ℕ, suc, _*_, _-_, _%_}
 use lib.ListN.{length}
 use lib.Dec.{leb, eqb}
-use Rattle.plain.specs.Table.{total}
+use Rattle.plain.specs.Table.{at, tabulate, total}
 use Rattle.graph.specs.Cable.{Cables}
 use Rattle.tables.specs.Verdict.{Verdict, Sound, Refused, checks, unless}
 use Rattle.tables.specs.Tables.{Tables}
@@ -38,6 +38,6 @@ unfoldable pub after : List ℕ → Cables → Tables → Tables
 after up [] t = t
 after up (p ∷ l) t = after up l (linked up (p .0) (p .1) t)
 
--- the total by which marks rose
-abbrev pub rise : Tables → Tables → ℕ
-rise t t′ = total (t′ .mark) - total (t .mark)
+-- the total by which marks rose: the differences between the tables after and before, added up
+unfoldable pub rise : Tables → Tables → ℕ
+rise t t′ = total (tabulate (length (t .mark)) (λ x. at (t′ .mark) x - at (t .mark) x))

@@ -19,7 +19,7 @@ pub record Answer (A : Type 0) : Type 0 where
   pub lent : A
 
 -- refused: its number, its value, and what was lent as it came. Else code 0, and what is done
-abbrev pub answer : {A : Type 0} → Verdict → A → ℕ → A → Answer A
+unfoldable pub answer : {A : Type 0} → Verdict → A → ℕ → A → Answer A
 answer Sound came value done = record { code = 0; value = value; lent = done }
 answer (Refused code place) came value done = record { code = code; value = place; lent = came }
 
