@@ -1,4 +1,8 @@
 // A site of machines over lent slices: Start, Add and Report.
+mod fill;
+mod ring;
+mod tree;
+
 pub struct Site {}
 
 // The answer of a call: its code, and the value that goes with it.

@@ -1,0 +1,39 @@
+-- A loop that fills a slice from its front by a rule: the first i entries go by it, each store makes them one more, and at the end the slice
+-- is the list by that rule.
+use mathlib.Core.Path.{_≡_, refl, sym, ap, _∙_}
+use mathlib.Core.List.{List, _∷_}
+use Prim.Native.Nat.{ℕ, zero, suc, _+_, _<_, _≤_}
+use native.Mathlib.Omega.{arith}
+use lib.ListN.{length, set, replicate, length-set}
+use Rattle.plain.specs.Table.{at, tabulate}
+use Rattle.plain.proofs.Fill.{Filled, fill-more}
+use Rattle.plain.proofs.Tabulate.{tabulated}
+
+-- of the slice, at first l₀, the first i entries go by f
+pub record Filling (l₀ l : List ℕ) (i : ℕ) (f : ℕ → ℕ) : Type 0 where
+  pub le : i ≤ length l₀
+  pub size : length l ≡ length l₀
+  pub done : Filled l i f
+
+pub fill-start : (l : List ℕ) (f : ℕ → ℕ) → Filling l l 0 f
+fill-start l f = record { le = omega arith; size = refl; done = λ k h. absurd (omega arith) }
+
+pub fill-next : {l₀ l : List ℕ} {i : ℕ} {f : ℕ → ℕ} (v : ℕ) → i < length l₀ → v ≡ f i → Filling l₀ l i f
+    → Filling l₀ (set l i v) (i + 1) f
+fill-next {l₀} {l} {i} {f} v h e a = record {
+  le = omega arith;
+  size = length-set l i v ∙ a .size;
+  done = fill-more l i v f (omega (arith, a .size)) (a .done) e;
+}
+
+pub fill-end : {l₀ l : List ℕ} {i : ℕ} {f : ℕ → ℕ} → length l₀ ≤ i → Filling l₀ l i f → l ≡ tabulate (length l₀) f
+fill-end {l₀} {l} {i} {f} h a = tabulated l (length l₀) f (a .size) (λ k b. a .done k (omega arith))
+
+-- a list goes by its own entries, and a list of n times a by a alone
+pub by-entries : (l : List ℕ) → tabulate (length l) (at l) ≡ l
+by-entries l = sym (tabulated l (length l) (at l) refl (λ k h. refl))
+
+pub all-alike : (n a : ℕ) → tabulate n (λ _. a) ≡ replicate n a
+unfolding tabulate
+all-alike zero a = refl
+all-alike (suc n) a = ap (λ l. a ∷ l) (all-alike n a)

@@ -1,0 +1,11 @@
+pub mod Filling
+pub mod HubSearch
+pub mod Depths
+pub mod DepthTable
+pub mod TreeVerdicts
+pub mod Meeting
+pub mod Arms
+pub mod Raising
+pub mod Renaming
+pub mod Linking
+pub mod Applying

@@ -1,0 +1,66 @@
+-- `ring::relabel` meets its contract: the entries before `i` are renamed, and the others are as they were.
+use Prim.Native.Nat.{_-_}
+use lib.ListN.{length}
+use Rattle.tables.specs.Link.{renamed}
+use Rattle.site.proofs.Renaming.{Renaming, start, next, end}
+use borrow.Author.Needs.{needs}
+use native.Mathlib.Omega.{arith}
+use Rattle.site.proofs.ring.relabel.Statement.{statement}
+use Rattle.site.proofs.ring.relabel.Tie as tie
+
+abbrev Inv-loop : tie.InvT-loop
+Inv-loop group₀ hi lo i₀ group i = Renaming (renamed hi lo) group₀ group i
+
+abbrev μ-loop : tie.MeasureT-loop
+μ-loop group₀ hi lo i₀ group i = length group₀ - i
+
+loop-holds : tie.Need-loop-holds Inv-loop μ-loop
+loop-holds c = start _ _
+
+mul-rename : tie.Need-mul-rename Inv-loop μ-loop
+mul-rename c = search needs
+
+slice-read-rename : tie.Need-slice-read-rename Inv-loop μ-loop
+slice-read-rename c = search needs
+
+rename-requires : tie.Need-rename-requires Inv-loop μ-loop
+rename-requires c κs = search needs
+
+mul-group : tie.Need-mul-group Inv-loop μ-loop
+mul-group c = search needs
+
+slice-write-group : tie.Need-slice-write-group Inv-loop μ-loop
+slice-write-group c = search needs
+
+add-i : tie.Need-add-i Inv-loop μ-loop
+add-i c = search needs
+
+loop-less : tie.Need-loop-less Inv-loop μ-loop
+loop-less c = omega (arith, c .before .before .before .loop .inv .size)
+
+loop-again : tie.Need-loop-again Inv-loop μ-loop
+loop-again c = next _ _ (c .before .before .before .loop .inv) _ (c .before .before .loop-test .taken) (c .rename .ensures)
+
+same-length : tie.Need-same-length Inv-loop μ-loop
+same-length c = c .before .loop .inv .size
+
+returns : tie.Need-returns Inv-loop μ-loop
+returns c = end _ _ (c .before .loop .inv) (c .loop-test .left)
+
+pub relabel-spec : {M : Type 1} → statement M
+relabel-spec =
+    tie.close
+    (tie.spec
+    Inv-loop
+    μ-loop
+    loop-holds
+    mul-rename
+    slice-read-rename
+    rename-requires
+    mul-group
+    slice-write-group
+    add-i
+    loop-less
+    loop-again
+    same-length
+    returns)

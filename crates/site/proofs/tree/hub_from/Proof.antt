@@ -1,0 +1,57 @@
+-- `site::tree::hub_from` meets its contract. The loop's invariant: no machine from `from` to `v` names itself.
+use Prim.Native.Nat.{_-_}
+use native.Mathlib.Omega.{arith}
+use lib.ListN.{length}
+use borrow.Author.Needs.{needs}
+use Rattle.site.proofs.HubSearch.{Seeking, seek-start, seek-next, seek-found, seek-end}
+use Rattle.site.proofs.tree.hub_from.Statement.{statement}
+use Rattle.site.proofs.tree.hub_from.Tie as tie
+
+abbrev Inv-loop : tie.InvT-loop
+Inv-loop up from v₀ v = Seeking up from v
+
+abbrev μ-loop : tie.MeasureT-loop
+μ-loop up from v₀ v = length up - v
+
+loop-holds : tie.Need-loop-holds Inv-loop μ-loop
+loop-holds c = seek-start _ _ (c .pre)
+
+mul-if1 : tie.Need-mul-if1 Inv-loop μ-loop
+mul-if1 c = search needs
+
+shared-slice-read-if1 : tie.Need-shared-slice-read-if1 Inv-loop μ-loop
+shared-slice-read-if1 c = search needs
+
+cast-if1 : tie.Need-cast-if1 Inv-loop μ-loop
+cast-if1 c = omega (arith, c .shared-slice-known .given (c .before .before .loop .v))
+
+returns : tie.Need-returns Inv-loop μ-loop
+returns c = seek-found (omega arith) (c .if1 .taken) (c .before .before .before .loop .inv)
+
+add-v : tie.Need-add-v Inv-loop μ-loop
+add-v c = search needs
+
+loop-less : tie.Need-loop-less Inv-loop μ-loop
+loop-less c = search needs
+
+loop-again : tie.Need-loop-again Inv-loop μ-loop
+loop-again c = seek-next (omega arith) (c .if1 .left) (c .before .before .before .loop .inv)
+
+returns-2 : tie.Need-returns-2 Inv-loop μ-loop
+returns-2 c = seek-end (omega arith) (c .before .loop .inv)
+
+pub hub-from-spec : {M : Type 1} → statement M
+hub-from-spec =
+    tie.close
+    (tie.spec
+    Inv-loop
+    μ-loop
+    loop-holds
+    mul-if1
+    shared-slice-read-if1
+    cast-if1
+    returns
+    add-v
+    loop-less
+    loop-again
+    returns-2)

@@ -1,0 +1,117 @@
+-- `site::tree::reach` meets its contract. The loop's invariant: every known depth is right, and the machines below `v` have theirs.
+use Prim.Native.Nat.{_-_}
+use native.Mathlib.Omega.{arith}
+use lib.ListN.{length}
+use borrow.Author.Needs.{needs}
+use Rattle.site.proofs.DepthTable.{Reaching, reach-start, reach-climb, reach-stray, reach-lay, reach-next, reach-end}
+use Rattle.site.proofs.tree.reach.Statement.{statement}
+use Rattle.site.proofs.tree.reach.Tie as tie
+
+abbrev Inv-loop : tie.InvT-loop
+Inv-loop up known₀ top v₀ known v = Reaching up known v
+
+abbrev μ-loop : tie.MeasureT-loop
+μ-loop up known₀ top v₀ known v = length up - v
+
+blank-requires : tie.Need-blank-requires Inv-loop μ-loop
+blank-requires c κs = search needs
+
+hub-requires : tie.Need-hub-requires Inv-loop μ-loop
+hub-requires c κs = search needs
+
+mul-known : tie.Need-mul-known Inv-loop μ-loop
+mul-known c = omega arith
+
+slice-write-known : tie.Need-slice-write-known Inv-loop μ-loop
+slice-write-known c = omega arith
+
+loop-holds : tie.Need-loop-holds Inv-loop μ-loop
+loop-holds c =
+    reach-start
+    (c .before .before .before .before .before .before .before .pre)
+    (c .before .before .before .blank .ensures)
+    (c .hub .ensures)
+
+until-requires : tie.Need-until-requires Inv-loop μ-loop
+until-requires c κs =
+    reach-climb
+    (c .before .before .before .before .before .before .before .before .before .before .pre)
+    (c .before .before .loop .inv)
+    (omega arith)
+
+same-length : tie.Need-same-length Inv-loop μ-loop
+same-length c = search needs
+
+returns : tie.Need-returns Inv-loop μ-loop
+returns c =
+    reach-stray
+    (c .before .before .before .before .before .before .before .before .before .before .before .before .pre)
+    (c .before .before .before .before .loop .inv)
+    (omega arith)
+    (c .if1 .taken)
+    (c .before .until .ensures)
+
+mul-depth : tie.Need-mul-depth Inv-loop μ-loop
+mul-depth c = search needs
+
+slice-read-depth : tie.Need-slice-read-depth Inv-loop μ-loop
+slice-read-depth c = search needs
+
+cast-depth : tie.Need-cast-depth Inv-loop μ-loop
+cast-depth c = omega (arith, c .slice-known3 .given (c .before .before .until .result .at))
+
+add-depth : tie.Need-add-depth Inv-loop μ-loop
+add-depth c = omega (arith, c .slice-known3 .given (c .before .before .until .result .at))
+
+lay-requires : tie.Need-lay-requires Inv-loop μ-loop
+lay-requires c κs =
+    reach-lay
+    (c .before .before .before .before .before .before .before .before .before .before .before .before .before .before .pre)
+    (c .before .before .before .before .before .before .loop .inv)
+    (omega arith)
+    (c .before .before .if1 .left)
+    (c .before .before .before .until .ensures)
+
+add-v : tie.Need-add-v Inv-loop μ-loop
+add-v c = search needs
+
+loop-less : tie.Need-loop-less Inv-loop μ-loop
+loop-less c = search needs
+
+loop-again : tie.Need-loop-again Inv-loop μ-loop
+loop-again c =
+    reach-next
+    (omega arith)
+    (c .before .before .lay .ensures)
+    (c .before .before .before .before .before .before .before .before .before .loop .inv)
+
+same-length-2 : tie.Need-same-length-2 Inv-loop μ-loop
+same-length-2 c = search needs
+
+returns-2 : tie.Need-returns-2 Inv-loop μ-loop
+returns-2 c = reach-end (c .before .before .before .before .before .before .before .before .before .pre) (c .before .loop .inv) (omega arith)
+
+pub reach-spec : {M : Type 1} → statement M
+reach-spec =
+    tie.close
+    (tie.spec
+    Inv-loop
+    μ-loop
+    blank-requires
+    hub-requires
+    mul-known
+    slice-write-known
+    loop-holds
+    until-requires
+    same-length
+    returns
+    mul-depth
+    slice-read-depth
+    cast-depth
+    add-depth
+    lay-requires
+    add-v
+    loop-less
+    loop-again
+    same-length-2
+    returns-2)

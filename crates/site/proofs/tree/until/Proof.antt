@@ -1,0 +1,66 @@
+-- `site::tree::until` meets its contract. The loop's invariant: `x` stands `k` steps up from `v`, and no machine before it has a known depth.
+use Prim.Native.Nat.{_-_}
+use native.Mathlib.Omega.{arith}
+use lib.ListN.{length}
+use borrow.Author.Needs.{needs}
+use Rattle.site.specs.TreeCheck.{Climbed}
+use Rattle.site.proofs.DepthTable.{climb-start, climb-next, climb-here, climb-end}
+use Rattle.site.proofs.tree.until.Statement.{statement}
+use Rattle.site.proofs.tree.until.Tie as tie
+
+abbrev Inv-loop : tie.InvT-loop
+Inv-loop up known v k₀ x₀ k x = Climbed up known v k x
+
+abbrev μ-loop : tie.MeasureT-loop
+μ-loop up known v k₀ x₀ k x = length up - k
+
+loop-holds : tie.Need-loop-holds Inv-loop μ-loop
+loop-holds c = climb-start (c .pre)
+
+mul-if1 : tie.Need-mul-if1 Inv-loop μ-loop
+mul-if1 c = search needs
+
+shared-slice-read-if1 : tie.Need-shared-slice-read-if1 Inv-loop μ-loop
+shared-slice-read-if1 c = search needs
+
+returns : tie.Need-returns Inv-loop μ-loop
+returns c = climb-here (c .if1 .taken) (c .before .before .before .loop .inv)
+
+mul-x : tie.Need-mul-x Inv-loop μ-loop
+mul-x c = search needs
+
+shared-slice-read-x : tie.Need-shared-slice-read-x Inv-loop μ-loop
+shared-slice-read-x c = search needs
+
+cast-x : tie.Need-cast-x Inv-loop μ-loop
+cast-x c = omega (arith, c .shared-slice-known2 .given (c .before .before .before .before .loop .x))
+
+add-k : tie.Need-add-k Inv-loop μ-loop
+add-k c = search needs
+
+loop-less : tie.Need-loop-less Inv-loop μ-loop
+loop-less c = search needs
+
+loop-again : tie.Need-loop-again Inv-loop μ-loop
+loop-again c = climb-next (c .before .before .before .before .before .pre) (omega arith) (c .before .if1 .left) (c .before .before .before .before .loop .inv)
+
+returns-2 : tie.Need-returns-2 Inv-loop μ-loop
+returns-2 c = climb-end (omega arith) (c .before .loop .inv)
+
+pub until-spec : {M : Type 1} → statement M
+until-spec =
+    tie.close
+    (tie.spec
+    Inv-loop
+    μ-loop
+    loop-holds
+    mul-if1
+    shared-slice-read-if1
+    returns
+    mul-x
+    shared-slice-read-x
+    cast-x
+    add-k
+    loop-less
+    loop-again
+    returns-2)
