@@ -3,6 +3,8 @@ pub mod HubSearch
 pub mod Depths
 pub mod DepthTable
 pub mod TreeVerdicts
+pub mod Batches
+pub mod Keeping
 pub mod Meeting
 pub mod Arms
 pub mod Raising

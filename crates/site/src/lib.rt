@@ -1,6 +1,10 @@
 // A site of machines over lent slices: Start, Add and Report.
+mod batch;
+mod checks;
 mod fill;
 mod ring;
+mod rules;
+mod table;
 mod tree;
 
 pub struct Site {}

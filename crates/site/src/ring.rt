@@ -3,17 +3,9 @@ ghost use mathlib.Core.Path.{_≡_};
 ghost use mathlib.Core.List.{map};
 ghost use Prim.Native.Nat.{_<_, max, min};
 ghost use lib.ListN.{length};
-ghost use Rattle.plain.specs.Table.{at};
 ghost use Rattle.tables.specs.Link.{meet, renamed, joined};
 ghost use Rattle.site.specs.RingStep.{Ends, Climbs, markFor, Raises, joinedBelow, Linkable, Links, Ready, Applied};
-
-// An entry of a table of machines.
-fn at(s: &[u16], i: usize) -> usize
-    requires { ⌜ i < length (now s) ⌝ }
-    ensures { λ r. ⌜ r ≡ at (now (s .entry)) i ⌝ }
-{
-    s[i] as usize
-}
+use crate::table::at;
 
 // Where the lines of a and b meet. The deeper of two machines climbs: it is not on the other's line, or they would be one.
 fn meet(up: &[u16], depth: &[u16], a: usize, b: usize) -> usize

@@ -1,8 +1,8 @@
--- `ring::at` meets its contract: an entry of 16 bits fits.
+-- `site::table::at` meets its contract: an entry of 16 bits fits.
 use native.Mathlib.Omega.{arith}
 use borrow.Author.Needs.{needs}
-use Rattle.site.proofs.ring.at.Statement.{statement}
-use Rattle.site.proofs.ring.at.Tie as tie
+use Rattle.site.proofs.table.at.Statement.{statement}
+use Rattle.site.proofs.table.at.Tie as tie
 
 mul-result : tie.Need-mul-result
 mul-result c = search needs

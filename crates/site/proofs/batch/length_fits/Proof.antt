@@ -1,0 +1,20 @@
+use borrow.Author.Tests.{eq-eqb, ne-eqb}
+use native.Mathlib.Omega.{arith}
+use borrow.Author.Needs.{needs}
+use Rattle.site.proofs.batch.length_fits.Statement.{statement}
+use Rattle.site.proofs.batch.length_fits.Tie as tie
+
+-- src/batch.rt:18:16
+mul-result : tie.Need-mul-result
+mul-result c = search needs
+
+-- src/batch.rt:14:1
+returns : tie.Need-returns
+returns c = rw (eq-eqb _ _ (c .if1 .taken))
+
+-- src/batch.rt:14:1
+returns-2 : tie.Need-returns-2
+returns-2 c = rw (ne-eqb _ _ (c .if1 .left))
+
+pub length-fits-spec : {M : Type 1} → statement M
+length-fits-spec = tie.close (tie.spec mul-result returns returns-2)

@@ -1,0 +1,34 @@
+use borrow.Author.Tests.{eq-eqb, ne-eqb}
+use Rattle.tables.specs.Rules.{hubRule}
+use Rattle.site.proofs.Keeping.{at-hub, off-hub}
+use native.Mathlib.Omega.{arith}
+use borrow.Author.Needs.{needs}
+use Rattle.site.proofs.rules.hub_rule.Statement.{statement}
+use Rattle.site.proofs.rules.hub_rule.Tie as tie
+
+-- src/rules.rt:51:9
+returns : tie.Need-returns
+unfolding hubRule
+returns c = λ up d e. rw (off-hub up e (c .if1 .taken))
+
+-- src/rules.rt:53:11
+shared-slice-read-match : tie.Need-shared-slice-read-match
+shared-slice-read-match c = search needs
+
+-- src/rules.rt:54:14
+at-requires : tie.Need-at-requires
+at-requires c κs = search needs
+
+-- src/rules.rt:46:1
+returns-2 : tie.Need-returns-2
+unfolding hubRule
+returns-2 c = λ up d e. rw (at-hub up e (c .before .before .before .if1 .left), eq-eqb _ 0 (c .before .match .keys1), ← c .at .ensures)
+
+-- src/rules.rt:46:1
+returns-3 : tie.Need-returns-3
+unfolding hubRule
+returns-3 c = λ up d e. rw (at-hub up e (c .before .before .if1 .left), ne-eqb _ 0 (c .match .rest .1))
+
+pub hub-rule-spec : {M : Type 1} → statement M
+hub-rule-spec =
+    tie.close (tie.spec returns shared-slice-read-match at-requires returns-2 returns-3)

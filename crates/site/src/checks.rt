@@ -1,0 +1,73 @@
+// The checks that the calls share, each in the order of its codes, and the answer to one that refuses.
+ghost use mathlib.Core.Path.{_≡_};
+ghost use Rattle.site.specs.Check.{numberOf, codeOf, placeOf, verdictOf};
+ghost use Rattle.site.specs.Checked.{sizesVerdict, outputsVerdict};
+use crate::Answer;
+use crate::Check;
+use crate::Fault;
+use crate::Site;
+
+// The number of a fault in the answers.
+fn number(why: Fault) -> u16
+    ensures { λ r. ⌜ r ≡ numberOf why ⌝ }
+{
+    match why {
+        Fault::Size => 1,
+        Fault::Slice => 2,
+        Fault::Entry => 3,
+        Fault::Hubs => 4,
+        Fault::Stray => 5,
+        Fault::Rule => 6,
+        Fault::Length => 7,
+        Fault::End => 8,
+        Fault::Loop => 9,
+    }
+}
+
+// The answer to a check: its number and its place.
+pub fn refusal(c: Check) -> Answer
+    ensures { λ r. ⌜ (r .code ≡ codeOf c) × (r .value ≡ placeOf c) ⌝ }
+{
+    match c {
+        Check::Sound => Answer { code: 0, value: 0 },
+        Check::Refused(why, place) => Answer {
+            code: number(why),
+            value: place,
+        },
+    }
+}
+
+// The number of machines, and the lengths of the three tables.
+pub fn sizes(n: usize, depth: usize, group: usize, mark: usize) -> Check
+    ensures { λ r. ⌜ verdictOf r ≡ sizesVerdict n depth group mark ⌝ }
+{
+    if n == 0 {
+        return Check::Refused(Fault::Size, n);
+    }
+    if n > Site::MACHINES {
+        return Check::Refused(Fault::Size, n);
+    }
+    if depth != n {
+        return Check::Refused(Fault::Slice, 1);
+    }
+    if group != n {
+        return Check::Refused(Fault::Slice, 2);
+    }
+    if mark != n {
+        return Check::Refused(Fault::Slice, 3);
+    }
+    Check::Sound
+}
+
+// The lengths of the report's two outputs.
+pub fn outputs(n: usize, machines: usize, links: usize) -> Check
+    ensures { λ r. ⌜ verdictOf r ≡ outputsVerdict n machines links ⌝ }
+{
+    if machines != n {
+        return Check::Refused(Fault::Slice, 4);
+    }
+    if links != n {
+        return Check::Refused(Fault::Slice, 5);
+    }
+    Check::Sound
+}
