@@ -5,6 +5,8 @@ pub mod DepthTable
 pub mod TreeVerdicts
 pub mod Batches
 pub mod Keeping
+pub mod Answers
+pub mod Starting
 pub mod Meeting
 pub mod Arms
 pub mod Raising

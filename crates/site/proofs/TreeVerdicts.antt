@@ -10,7 +10,7 @@ use Rattle.plain.specs.Table.{at}
 use Rattle.plain.proofs.Loops.{NoneBelow, none-more}
 use Rattle.tables.specs.Verdict.{Verdict, Sound, Refused, checks}
 use Rattle.tables.specs.Tree.{hub, treeVerdict}
-use Rattle.tables.proofs.Verdicts.{refuse-at, refuse-none, none-refused, all-sound, unless-sound, not-both}
+use Rattle.tables.proofs.Verdicts.{passes, refuses, checks-one, checks-append, refuse-at, refuse-none, none-refused, all-sound, unless-sound, not-both}
 use Rattle.site.specs.Check.{verdictOf}
 use Rattle.site.specs.declared.Check.{Check}
 use Rattle.site.specs.declared.Check.the-variants as check
@@ -40,30 +40,14 @@ entries-inside up e v h = leb-false (length up) (at up v) (none-refused 3 (lengt
 hubs-in : (up : List ℕ) → hubsVerdict up ≡ Sound → hub up < length up
 hubs-in up e = ltb-true (hub up) (length up) (unless-sound _ _ _ (all-sound _ e .0))
 
--- a check that refuses is the answer, one that passes leaves it to those behind it
-refuses : {a : Verdict} {c v : ℕ} → a ≡ Refused c v → (vs : List Verdict) → a ≡ checks (a ∷ vs)
+three : (a b c d : Verdict) → checks (a ∷ checks (b ∷ c ∷ []) ∷ d ∷ []) ≡ checks (a ∷ b ∷ c ∷ d ∷ [])
 unfolding checks
-refuses e vs = rw e refl
-
-passes : {a : Verdict} → a ≡ Sound → (vs : List Verdict) → checks vs ≡ checks (a ∷ vs)
-unfolding checks
-passes e vs = rw e refl
-
-last : (a : Verdict) → a ≡ checks (a ∷ [])
-unfolding checks
-last Sound = refl
-last (Refused code value) = refl
-
-in-turn : (a b c d : Verdict) → checks (a ∷ checks (b ∷ c ∷ []) ∷ d ∷ []) ≡ checks (a ∷ b ∷ c ∷ d ∷ [])
-unfolding checks
-in-turn (Refused code value) b c d = refl
-in-turn Sound (Refused code value) c d = refl
-in-turn Sound Sound (Refused code value) d = refl
-in-turn Sound Sound Sound d = refl
+three (Refused code value) b c d = refl
+three Sound b c d = checks-append (b ∷ c ∷ []) (d ∷ [])
 
 three-checks : (up : List ℕ) → checks (entriesVerdict up ∷ hubsVerdict up ∷ reachVerdict up ∷ []) ≡ treeVerdict up
 unfolding treeVerdict
-three-checks up = in-turn _ _ _ _
+three-checks up = three _ _ _ _
 
 -- a verdict is what the check's answer says
 answered : {r s : Check} {v : Verdict} → r ≡ s → verdictOf r ≡ v → v ≡ verdictOf s
@@ -73,7 +57,7 @@ answered e q = sym q ∙ ap verdictOf e
 pub stop-entries : {up known : List ℕ} {r : Check} {why : Fault} {v : ℕ} → r ≡ check.Refused why v → verdictOf r ≡ entriesVerdict up
     → length known ≡ length up → TreeChecked up known r
 stop-entries {up} e q s = record {
-  verdict = q ∙ refuses (answered e q) _ ∙ three-checks up;
+  verdict = q ∙ sym (refuses (answered e q) _) ∙ three-checks up;
   size = s;
   depths = not-both (ap verdictOf e);
 }
@@ -83,7 +67,7 @@ module _ {up : List ℕ} {r : Check} (e : r ≡ check.Sound) (q : verdictOf r �
   pub stop-hubs : {known : List ℕ} {r′ : Check} {why : Fault} {v : ℕ} → r′ ≡ check.Refused why v → verdictOf r′ ≡ hubsVerdict up
       → length known ≡ length up → TreeChecked up known r′
   stop-hubs e′ q′ s = record {
-    verdict = q′ ∙ refuses (answered e′ q′) _ ∙ passes (answered e q) _ ∙ three-checks up;
+    verdict = q′ ∙ sym (refuses (answered e′ q′) _) ∙ sym (passes (answered e q) _) ∙ three-checks up;
     size = s;
     depths = not-both (ap verdictOf e′);
   }
@@ -95,7 +79,7 @@ module _ {up : List ℕ} {r : Check} (e : r ≡ check.Sound) (q : verdictOf r �
     -- it runs to its end
     pub all-checked : {known : List ℕ} {r″ : Check} → Reached up known r″ → TreeChecked up known r″
     all-checked k = record {
-      verdict = k .verdict ∙ last _ ∙ passes (answered e′ q′) _ ∙ passes (answered e q) _ ∙ three-checks up;
+      verdict = k .verdict ∙ sym (checks-one _) ∙ sym (passes (answered e′ q′) _) ∙ sym (passes (answered e q) _) ∙ three-checks up;
       size = k .size;
       depths = k .depths;
     }

@@ -1,8 +1,10 @@
 -- The verdicts that the calls share, joined as the code joins them.
+use mathlib.Core.Path.{_≡_}
 use mathlib.Core.List.{List, [], _∷_}
-use Prim.Native.Nat.{ℕ}
+use Prim.Native.Nat.{ℕ, _<_, _≤_}
+use lib.ListN.{length}
 use Rattle.tables.specs.Verdict.{Verdict, checks}
-use Rattle.tables.specs.Tree.{sizeVerdict, treeVerdict}
+use Rattle.tables.specs.Tree.{mostMachines, sizeVerdict, treeVerdict}
 use Rattle.tables.specs.Tables.{Tables, sized}
 use Rattle.tables.specs.Rules.{rulesVerdict}
 
@@ -17,3 +19,14 @@ outputsVerdict n machines links = checks (sized 4 machines n ∷ sized 5 links n
 -- codes 3 to 6
 unfoldable pub tablesVerdict : List ℕ → Tables → Verdict
 tablesVerdict up t = checks (treeVerdict up ∷ rulesVerdict up t ∷ [])
+
+-- what codes 1 and 2 leave: some machines and not too many, and an entry for each in each table
+pub record Sizes (n depth group mark : ℕ) : Type 0 where
+  pub some : 0 < n
+  pub few : n ≤ mostMachines
+  pub depth-size : depth ≡ n
+  pub group-size : group ≡ n
+  pub mark-size : mark ≡ n
+
+abbrev pub Lengths : List ℕ → List ℕ → List ℕ → List ℕ → Type 0
+Lengths up depth group mark = Sizes (length up) (length depth) (length group) (length mark)

@@ -1,11 +1,14 @@
 // The checks that the calls share, each in the order of its codes, and the answer to one that refuses.
 ghost use mathlib.Core.Path.{_≡_};
 ghost use Rattle.site.specs.Check.{numberOf, codeOf, placeOf, verdictOf};
-ghost use Rattle.site.specs.Checked.{sizesVerdict, outputsVerdict};
+ghost use Rattle.site.specs.Lent.{tablesOf};
+ghost use Rattle.site.specs.Checked.{sizesVerdict, outputsVerdict, tablesVerdict, Lengths};
 use crate::Answer;
 use crate::Check;
 use crate::Fault;
 use crate::Site;
+use crate::rules;
+use crate::tree;
 
 // The number of a fault in the answers.
 fn number(why: Fault) -> u16
@@ -70,4 +73,19 @@ pub fn outputs(n: usize, machines: usize, links: usize) -> Check
         return Check::Refused(Fault::Slice, 5);
     }
     Check::Sound
+}
+
+// The tree and the rules behind code 6, over tables of the right lengths. The depths that the tree check leaves stay in a local array.
+pub fn tables(up: &[u16], depth: &[u16], group: &[u16], mark: &[u8]) -> Check
+    requires { ⌜ Lengths (now up) (now depth) (now group) (now mark) ⌝ }
+    ensures { λ r. ⌜ verdictOf r ≡ tablesVerdict (now (up .entry)) (tablesOf (now (depth .entry)) (now (group .entry)) (now (mark .entry))) ⌝ }
+{
+    let n = up.len();
+    let mut known = [0; Site::MACHINES];
+    let shape = tree::check(up, &mut known[..n]);
+    let Check::Sound = shape else {
+        return shape;
+    };
+    let top = tree::hub(up);
+    rules::check(up, depth, group, mark, top)
 }

@@ -1,4 +1,8 @@
 // A site of machines over lent slices: Start, Add and Report.
+ghost use mathlib.Core.Path.{_≡_};
+ghost use Rattle.tables.specs.Outcome.{startOf, addOf};
+ghost use Rattle.site.specs.Lent.{tablesOf, outcome};
+
 mod batch;
 mod checks;
 mod fill;
@@ -35,7 +39,60 @@ pub enum Check {
 }
 
 impl Site {
+    // A site has at most so many machines.
     pub const MACHINES: usize = 4096;
 
+    // A batch has at most so many links.
     pub const LINKS: usize = 1024;
+
+    // From a tree to fresh tables. The depths go to a local array first: nothing lent is touched before every check has passed.
+    pub fn start(up: &[u16], depth: &mut [u16], group: &mut [u16], mark: &mut [u8]) -> Answer
+        ensures { λ r. ⌜ outcome (r .code) (r .value) (tablesOf (now (depth .exit)) (now (group .exit)) (now (mark .exit)))
+            ≡ startOf (now (up .entry)) (tablesOf (now (depth .entry)) (now (group .entry)) (now (mark .entry))) ⌝ }
+    {
+        let n = up.len();
+        let lengths = checks::sizes(n, depth.len(), group.len(), mark.len());
+        let Check::Sound = lengths else {
+            return checks::refusal(lengths);
+        };
+        let mut known = [0; Site::MACHINES];
+        let shape = tree::check(up, &mut known[..n]);
+        let Check::Sound = shape else {
+            return checks::refusal(shape);
+        };
+        fill::copy(&known[..n], depth);
+        fill::number(group);
+        fill::clear(mark);
+        Answer { code: 0, value: n }
+    }
+
+    // One batch of cross links. Every check comes before the first link is used.
+    pub fn add(
+        up: &[u16],
+        depth: &mut [u16],
+        group: &mut [u16],
+        mark: &mut [u8],
+        batch: &[u16],
+    ) -> Answer
+        ensures { λ r. ⌜ outcome (r .code) (r .value) (tablesOf (now (depth .exit)) (now (group .exit)) (now (mark .exit)))
+            ≡ addOf (now (up .entry)) (now (batch .entry)) (tablesOf (now (depth .entry)) (now (group .entry)) (now (mark .entry))) ⌝ }
+    {
+        let lengths = checks::sizes(up.len(), depth.len(), group.len(), mark.len());
+        let Check::Sound = lengths else {
+            return checks::refusal(lengths);
+        };
+        let tables = checks::tables(up, depth, group, mark);
+        let Check::Sound = tables else {
+            return checks::refusal(tables);
+        };
+        let links = batch::check(up.len(), batch);
+        let Check::Sound = links else {
+            return checks::refusal(links);
+        };
+        let rise = ring::apply(up, depth, group, mark, batch);
+        Answer {
+            code: 0,
+            value: rise,
+        }
+    }
 }

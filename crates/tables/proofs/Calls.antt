@@ -17,7 +17,7 @@ use Rattle.tables.specs.Rules.{rulesVerdict}
 use Rattle.tables.specs.Outcome.{answer, startVerdict, startOf, addVerdict, addOf}
 use Rattle.tables.specs.Demand1.{SoundTree}
 use Rattle.tables.specs.Calls.{CallsLive, Limits}
-use Rattle.tables.proofs.Verdicts.{unless-sound}
+use Rattle.tables.proofs.Verdicts.{checks-one, unless-sound}
 use Rattle.tables.proofs.Sound.{sound-tree}
 use Rattle.tables.proofs.Histories.{network, links-good, told}
 use Rattle.tables.proofs.Rise.{rise-is}
@@ -36,11 +36,6 @@ module _ {up : List ℕ} {h : History} (s : SoundTree up) (f : Accepted (length 
         eq-eqb (length (tables up h .group)) (length up) (k .named .size),
         eq-eqb (length (tables up h .mark)) (length up) (k .marked .size),
       )
-
-checks-one : (v : Verdict) → checks (v ∷ []) ≡ v
-unfolding checks
-checks-one Sound = refl
-checks-one (Refused c p) = refl
 
 leaves-append : (up : List ℕ) (h : History) (batch : List ℕ) (t : Tables) → leaves up (h ++ (batch ∷ [])) t ≡ after up (pairs batch) (leaves up h t)
 unfolding leaves

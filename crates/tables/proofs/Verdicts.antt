@@ -1,7 +1,7 @@
 -- What a verdict tells: checks that refuse nothing have each passed, and a refusal is that of the first check that refuses.
 use mathlib.Core.Path.{_≡_, refl}
 use mathlib.Core.Bool.{Bool, true, false, cond}
-use mathlib.Core.List.{List, [], _∷_}
+use mathlib.Core.List.{List, [], _∷_, _++_}
 use mathlib.Core.Logic.{_⊎_, inl, inr}
 use Prim.Native.Nat.{ℕ, _<_}
 use native.Mathlib.Omega.{arith}
@@ -30,6 +30,34 @@ pub sound-all : (vs : List Verdict) → AllSound vs → checks vs ≡ Sound
 unfolding checks
 sound-all [] a = refl
 sound-all (v ∷ vs) a = rw (a .0) (sound-all vs (a .1))
+
+-- a check that passes leaves it to those behind it, one that refuses is the answer
+pub passes : {v : Verdict} → v ≡ Sound → (vs : List Verdict) → checks (v ∷ vs) ≡ checks vs
+unfolding checks
+passes e vs = rw e refl
+
+pub refuses : {v : Verdict} {c p : ℕ} → v ≡ Refused c p → (vs : List Verdict) → checks (v ∷ vs) ≡ v
+unfolding checks
+refuses e vs = rw e refl
+
+pub checks-one : (v : Verdict) → checks (v ∷ []) ≡ v
+unfolding checks
+checks-one Sound = refl
+checks-one (Refused c p) = refl
+
+-- some checks may run as one
+pub checks-append : (vs ws : List Verdict) → checks (checks vs ∷ ws) ≡ checks (vs ++ ws)
+unfolding checks
+checks-append [] ws = refl
+checks-append (Sound ∷ vs) ws = checks-append vs ws
+checks-append (Refused c p ∷ vs) ws = refl
+
+-- and what runs later may be exchanged for what says the same
+pub checks-then : (us vs ws : List Verdict) → checks vs ≡ checks ws → checks (us ++ vs) ≡ checks (us ++ ws)
+unfolding checks
+checks-then [] vs ws e = e
+checks-then (Sound ∷ us) vs ws e = checks-then us vs ws e
+checks-then (Refused c p ∷ us) vs ws e = refl
 
 -- the first check refuses, or it passes and a later one does
 pub first-refused : {c p : ℕ} (v : Verdict) (vs : List Verdict) → checks (v ∷ vs) ≡ Refused c p → (v ≡ Refused c p) ⊎ ((v ≡ Sound) × (checks vs ≡ Refused c p))

@@ -5,19 +5,15 @@ use borrow.Author.Needs.{needs}
 use Rattle.site.proofs.batch.check.Statement.{statement}
 use Rattle.site.proofs.batch.check.Tie as tie
 
--- src/batch.rt:61:9
 length-fits-requires : tie.Need-length-fits-requires
 length-fits-requires c κs = search needs
 
--- src/batch.rt:62:9
 returns : tie.Need-returns
 returns c = too-long _ _ (c .before .length-fits .ensures) (not-true _ (c .if1 .taken))
 
--- src/batch.rt:64:5
 ends-requires : tie.Need-ends-requires
 ends-requires c κs = search needs
 
--- src/batch.rt:57:1
 returns-2 : tie.Need-returns-2
 returns-2 c = by-ends _ _ (c .before .before .length-fits .ensures) (not-false _ (c .before .if1 .left)) (c .ends .ensures)
 

@@ -14,66 +14,51 @@ Inv-loop n batch i₀ i = Passed n batch i
 abbrev μ-loop : tie.MeasureT-loop
 μ-loop n batch i₀ i = length batch - 2 * i
 
--- src/batch.rt:46:5
 loop-holds : tie.Need-loop-holds Inv-loop μ-loop
 loop-holds c = passed-none _ _
 
--- src/batch.rt:46:11
 mul-loop : tie.Need-mul-loop Inv-loop μ-loop
 mul-loop c = omega (arith, c .loop .inv .low)
 
--- src/batch.rt:46:11
 add-loop : tie.Need-add-loop Inv-loop μ-loop
 add-loop c = omega (arith, c .loop .inv .low)
 
--- src/batch.rt:47:38
 mul-at : tie.Need-mul-at Inv-loop μ-loop
 mul-at c = search needs
 
--- src/batch.rt:47:28
 at-requires : tie.Need-at-requires Inv-loop μ-loop
 at-requires c κs = search needs
 
--- src/batch.rt:47:56
 mul-at-2 : tie.Need-mul-at-2 Inv-loop μ-loop
 mul-at-2 c = search needs
 
--- src/batch.rt:47:56
 add-at : tie.Need-add-at Inv-loop μ-loop
 add-at c = search needs
 
--- src/batch.rt:47:46
 at-requires-2 : tie.Need-at-requires-2 Inv-loop μ-loop
 at-requires-2 c κs = search needs
 
--- src/batch.rt:47:13
 link-requires : tie.Need-link-requires Inv-loop μ-loop
 link-requires c κs = search needs
 
 enum-told : tie.Need-enum-told Inv-loop μ-loop
 enum-told c = search needs
 
--- src/batch.rt:49:13
 enum-told-2 : tie.Need-enum-told-2 Inv-loop μ-loop
 enum-told-2 c = search needs
 
--- src/batch.rt:49:13
 returns : tie.Need-returns Inv-loop μ-loop
 returns c = refused (c .before .before .before .before .before .before .loop .inv) (c .before .before .before .before .before .loop-test .taken) (c .before .before .before .before .at .ensures) (c .before .before .before .at2 .ensures) (c .before .before .link .ensures) (ap verdictOf (c .enum-told2 .given .1))
 
--- src/batch.rt:51:9
 add-i : tie.Need-add-i Inv-loop μ-loop
 add-i c = search needs
 
--- src/batch.rt:46:5
 loop-less : tie.Need-loop-less Inv-loop μ-loop
 loop-less c = search needs
 
--- src/batch.rt:46:5
 loop-again : tie.Need-loop-again Inv-loop μ-loop
 loop-again c = passed-more (c .before .before .before .before .before .before .loop .inv) (c .before .before .before .before .before .loop-test .taken) (c .before .before .before .before .at .ensures) (c .before .before .before .at2 .ensures) (c .before .before .link .ensures) (ap verdictOf (c .enum-told .given .1))
 
--- src/batch.rt:42:1
 returns-2 : tie.Need-returns-2 Inv-loop μ-loop
 returns-2 c = passed-all (c .before .loop .inv) (c .loop-test .left)
 

@@ -4,15 +4,12 @@ use borrow.Author.Needs.{needs}
 use Rattle.site.proofs.batch.length_fits.Statement.{statement}
 use Rattle.site.proofs.batch.length_fits.Tie as tie
 
--- src/batch.rt:18:16
 mul-result : tie.Need-mul-result
 mul-result c = search needs
 
--- src/batch.rt:14:1
 returns : tie.Need-returns
 returns c = rw (eq-eqb _ _ (c .if1 .taken))
 
--- src/batch.rt:14:1
 returns-2 : tie.Need-returns-2
 returns-2 c = rw (ne-eqb _ _ (c .if1 .left))
 

@@ -4,22 +4,18 @@ use Rattle.tables.specs.Batch.{endsVerdict}
 use Rattle.site.proofs.batch.link.Statement.{statement}
 use Rattle.site.proofs.batch.link.Tie as tie
 
--- src/batch.rt:29:9
 returns : tie.Need-returns
 unfolding endsVerdict
 returns c = rw (le-leb _ _ (c .if1 .taken))
 
--- src/batch.rt:32:9
 returns-2 : tie.Need-returns-2
 unfolding endsVerdict
 returns-2 c = rw (lt-leb _ _ (c .before .if1 .left), le-leb _ _ (c .if2 .taken))
 
--- src/batch.rt:35:9
 returns-3 : tie.Need-returns-3
 unfolding endsVerdict
 returns-3 c = rw (lt-leb _ _ (c .before .before .if1 .left), lt-leb _ _ (c .before .if2 .left), eq-eqb _ _ (c .if3 .taken))
 
--- src/batch.rt:25:1
 returns-4 : tie.Need-returns-4
 unfolding endsVerdict
 returns-4 c = rw (lt-leb _ _ (c .before .before .if1 .left), lt-leb _ _ (c .before .if2 .left), ne-eqb _ _ (c .if3 .left))

@@ -8,33 +8,26 @@ use borrow.Author.Needs.{needs}
 use Rattle.site.proofs.rules.carried_rule.Statement.{statement}
 use Rattle.site.proofs.rules.carried_rule.Tie as tie
 
--- src/rules.rt:108:9
 at-requires : tie.Need-at-requires
 at-requires c κs = search needs
 
--- src/rules.rt:109:11
 shared-slice-read-match : tie.Need-shared-slice-read-match
 shared-slice-read-match c = search needs
 
--- src/rules.rt:110:37
 shared-slice-read-ringed : tie.Need-shared-slice-read-ringed
 shared-slice-read-ringed c = search needs
 
--- src/rules.rt:110:30
 ringed-requires : tie.Need-ringed-requires
 ringed-requires c κs = search needs
 
--- src/rules.rt:104:1
 returns : tie.Need-returns
 unfolding carriedRule
 returns c = λ d g. rw (eq-eqb _ 2 (c .before .before .before .match .keys1), ← c .before .before .before .before .before .at .ensures, off-hub _ (c .before .before .before .before .before .before .before .before .pre .top) (c .before .before .if1 .taken), ← c .ringed .ensures)
 
--- src/rules.rt:104:1
 returns-2 : tie.Need-returns-2
 unfolding carriedRule
 returns-2 c = λ d g. rw (eq-eqb _ 2 (c .before .match .keys1), ← c .before .before .before .at .ensures, at-hub _ (c .before .before .before .before .before .before .pre .top) (c .if1 .left)) (ap not (eq-eqb _ _ (c .if1 .left)))
 
--- src/rules.rt:104:1
 returns-3 : tie.Need-returns-3
 unfolding carriedRule
 returns-3 c = λ d g. rw (ne-eqb _ 2 (c .match .rest .1))

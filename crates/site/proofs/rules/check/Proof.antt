@@ -17,32 +17,25 @@ Inv-loop up depth group mark top v₀ v = (v ≤ length up) × NoneBelow (breaks
 abbrev μ-loop : tie.MeasureT-loop
 μ-loop up depth group mark top v₀ v = length up - v
 
--- src/rules.rt:151:5
 loop-holds : tie.Need-loop-holds Inv-loop μ-loop
 loop-holds c = (omega arith, λ k h. absurd (omega arith))
 
--- src/rules.rt:152:13
 keeps-requires : tie.Need-keeps-requires Inv-loop μ-loop
 keeps-requires c κs = (c .before .before .before .before .before .before .pre, c .loop-test .taken)
 
--- src/rules.rt:153:13
 returns : tie.Need-returns Inv-loop μ-loop
 unfolding rulesVerdict
 returns c = sym (refuse-at 6 _ _ _ (c .before .before .loop-test .taken) (c .before .before .before .loop .inv .1) (broken _ _ _ (c .before .keeps .ensures) (c .if1 .taken)))
 
--- src/rules.rt:155:9
 add-v : tie.Need-add-v Inv-loop μ-loop
 add-v c = search needs
 
--- src/rules.rt:151:5
 loop-less : tie.Need-loop-less Inv-loop μ-loop
 loop-less c = search needs
 
--- src/rules.rt:151:5
 loop-again : tie.Need-loop-again Inv-loop μ-loop
 loop-again c = (omega arith, none-more _ _ (c .before .before .before .loop .inv .1) (broken _ _ _ (c .before .keeps .ensures) (c .if1 .left)))
 
--- src/rules.rt:146:1
 returns-2 : tie.Need-returns-2 Inv-loop μ-loop
 unfolding rulesVerdict
 returns-2 c = sym (refuse-none 6 _ _ (λ k h. c .before .loop .inv .1 k (omega arith)))

@@ -7,43 +7,34 @@ use borrow.Author.Needs.{needs}
 use Rattle.site.proofs.rules.group_rule.Statement.{statement}
 use Rattle.site.proofs.rules.group_rule.Tie as tie
 
--- src/rules.rt:77:9
 returns : tie.Need-returns
 unfolding groupRule
 returns c = λ d m. rw (at-hub _ (c .before .before .before .pre .top) (c .if1 .taken))
 
--- src/rules.rt:79:9
 at-requires : tie.Need-at-requires
 at-requires c κs = search needs
 
--- src/rules.rt:81:9
 returns-2 : tie.Need-returns-2
 unfolding groupRule
 returns-2 c = λ d m. rw (off-hub _ (c .before .before .before .before .before .pre .top) (c .before .before .if1 .left), ← c .before .at .ensures) (over _ _ _ _ (c .if2 .taken))
 
--- src/rules.rt:84:9
 returns-3 : tie.Need-returns-3
 unfolding groupRule
 returns-3 c = λ d m. let p = c .before .before .before .before .before .before .pre in rw (off-hub _ (p .top) (c .before .before .before .if1 .left), ← c .before .before .at .ensures) (within _ _ _ (c .before .if2 .left) (p .low) (rw (at-hub _ (p .top) (c .if3 .taken))))
 
--- src/rules.rt:86:8
 at-requires-2 : tie.Need-at-requires-2
 at-requires-2 c κs = search needs
 
--- src/rules.rt:86:21
 at-requires-3 : tie.Need-at-requires-3
 at-requires-3 c κs = search needs
 
--- src/rules.rt:87:9
 returns-4 : tie.Need-returns-4
 unfolding groupRule
 returns-4 c = λ d m. let p = c .before .before .before .before .before .before .before .before .before .pre in rw (off-hub _ (p .top) (c .before .before .before .before .before .before .if1 .left), ← c .before .before .before .before .before .at .ensures) (within _ _ _ (c .before .before .before .before .if2 .left) (p .low) (rw (off-hub _ (p .top) (c .before .before .before .if3 .left), ← c .before .before .at2 .ensures, ← c .before .at3 .ensures, ne-eqb _ _ (c .if4 .taken))))
 
--- src/rules.rt:89:5
 at-requires-4 : tie.Need-at-requires-4
 at-requires-4 c κs = search needs
 
--- src/rules.rt:72:1
 returns-5 : tie.Need-returns-5
 unfolding groupRule
 returns-5 c = λ d m. let p = c .before .before .before .before .before .before .before .before .before .before .pre in rw (off-hub _ (p .top) (c .before .before .before .before .before .before .before .if1 .left), ← c .before .before .before .before .before .before .at .ensures) (within _ _ _ (c .before .before .before .before .before .if2 .left) (p .low) (rw (off-hub _ (p .top) (c .before .before .before .before .if3 .left), ← c .before .before .before .at2 .ensures, ← c .before .before .at3 .ensures, eq-eqb _ _ (c .before .if4 .left), ← c .at4 .ensures)))

@@ -6,25 +6,20 @@ use borrow.Author.Needs.{needs}
 use Rattle.site.proofs.rules.hub_rule.Statement.{statement}
 use Rattle.site.proofs.rules.hub_rule.Tie as tie
 
--- src/rules.rt:51:9
 returns : tie.Need-returns
 unfolding hubRule
 returns c = λ up d e. rw (off-hub up e (c .if1 .taken))
 
--- src/rules.rt:53:11
 shared-slice-read-match : tie.Need-shared-slice-read-match
 shared-slice-read-match c = search needs
 
--- src/rules.rt:54:14
 at-requires : tie.Need-at-requires
 at-requires c κs = search needs
 
--- src/rules.rt:46:1
 returns-2 : tie.Need-returns-2
 unfolding hubRule
 returns-2 c = λ up d e. rw (at-hub up e (c .before .before .before .if1 .left), eq-eqb _ 0 (c .before .match .keys1), ← c .at .ensures)
 
--- src/rules.rt:46:1
 returns-3 : tie.Need-returns-3
 unfolding hubRule
 returns-3 c = λ up d e. rw (at-hub up e (c .before .before .if1 .left), ne-eqb _ 0 (c .match .rest .1))

@@ -5,56 +5,44 @@ use borrow.Author.Needs.{needs}
 use Rattle.site.proofs.rules.keeps.Statement.{statement}
 use Rattle.site.proofs.rules.keeps.Tie as tie
 
--- src/rules.rt:127:9
 depth-rule-requires : tie.Need-depth-rule-requires
 depth-rule-requires c κs = let p = c .before .before .before .before .pre in beside (p .0) (p .1) (p .0 .depth-size)
 
--- src/rules.rt:128:9
 returns : tie.Need-returns
 unfolding keeps
 returns c = stop _ (c .before .depth-rule .ensures _ _) (c .if1 .taken)
 
--- src/rules.rt:130:9
 hub-rule-requires : tie.Need-hub-rule-requires
 hub-rule-requires c κs = search needs
 
--- src/rules.rt:131:9
 returns-2 : tie.Need-returns-2
 unfolding keeps
 returns-2 c = on (c .before .before .before .depth-rule .ensures _ _) (c .before .before .if1 .left) (stop _ (c .before .hub-rule .ensures _ _ (c .before .before .before .before .before .before .before .before .pre .0 .top)) (c .if2 .taken))
 
--- src/rules.rt:133:9
 mark-rule-requires : tie.Need-mark-rule-requires
 mark-rule-requires c κs = search needs
 
--- src/rules.rt:134:9
 returns-3 : tie.Need-returns-3
 unfolding keeps
 returns-3 c = on (c .before .before .before .before .before .depth-rule .ensures _ _) (c .before .before .before .before .if1 .left) (on (c .before .before .before .hub-rule .ensures _ _ (c .before .before .before .before .before .before .before .before .before .before .pre .0 .top)) (c .before .before .if2 .left) (stop _ (c .before .mark-rule .ensures _ _) (c .if3 .taken)))
 
--- src/rules.rt:136:9
 group-rule-requires : tie.Need-group-rule-requires
 group-rule-requires c κs = let p = c .before .before .before .before .before .before .before .before .before .before .pre in beside (p .0) (p .1) (p .0 .group-size)
 
--- src/rules.rt:137:9
 returns-4 : tie.Need-returns-4
 unfolding keeps
 returns-4 c = on (c .before .before .before .before .before .before .before .depth-rule .ensures _ _) (c .before .before .before .before .before .before .if1 .left) (on (c .before .before .before .before .before .hub-rule .ensures _ _ (c .before .before .before .before .before .before .before .before .before .before .before .before .pre .0 .top)) (c .before .before .before .before .if2 .left) (on (c .before .before .before .mark-rule .ensures _ _) (c .before .before .if3 .left) (stop _ (c .before .group-rule .ensures _ _) (c .if4 .taken))))
 
--- src/rules.rt:139:9
 partner-rule-requires : tie.Need-partner-rule-requires
 partner-rule-requires c κs = search needs
 
--- src/rules.rt:140:9
 returns-5 : tie.Need-returns-5
 unfolding keeps
 returns-5 c = on (c .before .before .before .before .before .before .before .before .before .depth-rule .ensures _ _) (c .before .before .before .before .before .before .before .before .if1 .left) (on (c .before .before .before .before .before .before .before .hub-rule .ensures _ _ (c .before .before .before .before .before .before .before .before .before .before .before .before .before .before .pre .0 .top)) (c .before .before .before .before .before .before .if2 .left) (on (c .before .before .before .before .before .mark-rule .ensures _ _) (c .before .before .before .before .if3 .left) (on (c .before .before .before .group-rule .ensures _ _) (c .before .before .if4 .left) (stop _ (c .before .partner-rule .ensures _ _ (c .before .before .before .before .before .before .before .before .before .before .before .before .before .before .pre .0 .top)) (c .if5 .taken)))))
 
--- src/rules.rt:142:5
 carried-rule-requires : tie.Need-carried-rule-requires
 carried-rule-requires c κs = let p = c .before .before .before .before .before .before .before .before .before .before .before .before .before .before .pre in beside (p .0) (p .1) (p .0 .mark-size)
 
--- src/rules.rt:123:1
 returns-6 : tie.Need-returns-6
 unfolding keeps
 returns-6 c = on (c .before .before .before .before .before .before .before .before .before .before .depth-rule .ensures _ _) (c .before .before .before .before .before .before .before .before .before .if1 .left) (on (c .before .before .before .before .before .before .before .before .hub-rule .ensures _ _ (c .before .before .before .before .before .before .before .before .before .before .before .before .before .before .before .pre .0 .top)) (c .before .before .before .before .before .before .before .if2 .left) (on (c .before .before .before .before .before .before .mark-rule .ensures _ _) (c .before .before .before .before .before .if3 .left) (on (c .before .before .before .before .group-rule .ensures _ _) (c .before .before .before .if4 .left) (on (c .before .before .partner-rule .ensures _ _ (c .before .before .before .before .before .before .before .before .before .before .before .before .before .before .before .pre .0 .top)) (c .before .if5 .left) (c .carried-rule .ensures _ _)))))

@@ -6,16 +6,13 @@ use borrow.Author.Needs.{needs}
 use Rattle.site.proofs.rules.mark_rule.Statement.{statement}
 use Rattle.site.proofs.rules.mark_rule.Tie as tie
 
--- src/rules.rt:64:11
 shared-slice-read-if1 : tie.Need-shared-slice-read-if1
 shared-slice-read-if1 c = search needs
 
--- src/rules.rt:60:1
 returns : tie.Need-returns
 unfolding markRule
 returns c = λ d g. let a = c .before .before .args in rw (le-leb (at (a .mark .now) (a .v)) 2 (omega arith))
 
--- src/rules.rt:60:1
 returns-2 : tie.Need-returns-2
 unfolding markRule
 returns-2 c = λ d g. rw (lt-leb _ 2 (c .if1 .left))

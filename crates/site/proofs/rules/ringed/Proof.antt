@@ -4,11 +4,9 @@ use native.Mathlib.Omega.{arith}
 use Rattle.site.proofs.rules.ringed.Statement.{statement}
 use Rattle.site.proofs.rules.ringed.Tie as tie
 
--- src/rules.rt:24:1
 returns : tie.Need-returns
 returns c = rw (c .match .keys1)
 
--- src/rules.rt:24:1
 returns-2 : tie.Need-returns-2
 returns-2 c = let o = c .match .rest .1 in rw (le-leb 1 (c .before .args .mark) (omega arith))
 
