@@ -7,6 +7,7 @@ pub mod Batches
 pub mod Keeping
 pub mod Answers
 pub mod Starting
+pub mod Adding
 pub mod Meeting
 pub mod Arms
 pub mod Raising

@@ -1,3 +1,5 @@
+use Rattle.site.proofs.Answers.{sizes-of, told}
+use Rattle.site.proofs.Adding.{add-lengths, add-tables, add-batch, add-ready, add-done}
 use native.Mathlib.Omega.{arith}
 use borrow.Author.Needs.{needs}
 use Rattle.site.proofs.Site.add.Statement.{statement}
@@ -27,11 +29,11 @@ refusal-requires c κs = search needs
 
 -- src/lib.rt:82:13
 returns : tie.Need-returns
-returns c = search needs
+returns c = add-lengths _ _ _ _ _ (c .before .before .before .sizes .ensures) (c .before .enum-told2 .given .1) (c .refusal .ensures)
 
 -- src/lib.rt:84:13
 tables-requires : tie.Need-tables-requires
-tables-requires c κs = search needs
+tables-requires c κs = sizes-of _ _ _ _ (told (c .before .before .before .enum-told .given .1) (c .before .before .before .before .before .sizes .ensures))
 
 enum-told-3 : tie.Need-enum-told-3
 enum-told-3 c = search needs
@@ -58,7 +60,7 @@ same-length-3 c = search needs
 
 -- src/lib.rt:86:13
 returns-2 : tie.Need-returns-2
-returns-2 c = search needs
+returns-2 c = add-tables _ _ _ _ _ (c .before .before .before .before .before .before .before .before .before .sizes .ensures) (c .before .before .before .before .before .before .before .enum-told .given .1) (c .before .before .before .tables .ensures) (c .before .enum-told4 .given .1) (c .refusal2 .ensures)
 
 -- src/lib.rt:88:13
 check-requires : tie.Need-check-requires
@@ -89,11 +91,11 @@ same-length-6 c = search needs
 
 -- src/lib.rt:90:13
 returns-3 : tie.Need-returns-3
-returns-3 c = search needs
+returns-3 c = add-batch _ _ _ _ _ (c .before .before .before .before .before .before .before .before .before .before .before .before .sizes .ensures) (c .before .before .before .before .before .before .before .before .before .before .enum-told .given .1) (c .before .before .before .before .before .before .tables .ensures) (c .before .before .before .before .enum-told3 .given .1) (c .before .before .before .check .ensures) (c .before .enum-told6 .given .1) (c .refusal3 .ensures)
 
 -- src/lib.rt:92:13
 apply-requires : tie.Need-apply-requires
-apply-requires c κs = search needs
+apply-requires c κs = add-ready _ _ _ _ _ (c .before .before .before .before .before .before .before .before .before .before .before .before .before .before .sizes .ensures) (c .before .before .before .before .before .before .before .before .before .before .before .before .enum-told .given .1) (c .before .before .before .before .before .before .before .before .tables .ensures) (c .before .before .before .before .before .before .enum-told3 .given .1) (c .before .before .before .before .before .check .ensures) (c .before .before .before .enum-told5 .given .1)
 
 -- src/lib.rt:70:5
 same-length-7 : tie.Need-same-length-7
@@ -109,7 +111,7 @@ same-length-9 c = search needs
 
 -- src/lib.rt:70:5
 returns-4 : tie.Need-returns-4
-returns-4 c = search needs
+returns-4 c = add-done _ _ _ _ _ (c .before .before .before .before .before .before .before .before .before .before .before .before .before .before .before .before .before .before .before .sizes .ensures) (c .before .before .before .before .before .before .before .before .before .before .before .before .before .before .before .before .before .enum-told .given .1) (c .before .before .before .before .before .before .before .before .before .before .before .before .before .tables .ensures) (c .before .before .before .before .before .before .before .before .before .before .before .enum-told3 .given .1) (c .before .before .before .before .before .before .before .before .before .before .check .ensures) (c .before .before .before .before .before .before .before .before .enum-told5 .given .1) (c .before .before .before .before .apply .ensures)
 
 pub add-spec : {M : Type 1} → statement M
 add-spec =
