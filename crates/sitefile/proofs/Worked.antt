@@ -1,0 +1,20 @@
+-- The worked files, by computation.
+use mathlib.Core.Path.{refl}
+use Rattle.plain.specs.Search.{least, some, count}
+use Rattle.plain.specs.Table.{tabulate, total}
+use Rattle.tables.specs.Verdict.{checks, refuseLeast}
+use Rattle.tables.specs.Tree.{climb, hub, depthOf, sizeVerdict, treeVerdict}
+use Rattle.tables.specs.Tables.{fresh, tableSizes}
+use Rattle.tables.specs.Link.{over, first, meet, ring, due, below, joined, grouped, raised, linked}
+use Rattle.tables.specs.Batch.{pairs, lengthVerdict, endsVerdict, batchVerdict, after, rise}
+use Rattle.tables.specs.Rules.{depthRule, hubRule, markRule, groupRule, partnerRule, carriedRule, keeps, breaks, rulesVerdict}
+use Rattle.tables.specs.Report.{child, groupCarried, stuck, split, ends, lone, machineByte, linkByte, machineBytes, linkBytes}
+use Rattle.tables.specs.Outcome.{answer, addVerdict, reportVerdict, named, addOf}
+use Rattle.sitefile.specs.Record.{bodyLength, whole, bodyOf}
+use Rattle.sitefile.specs.Text.{digits, line, machineLines, uplinkLines, reportText}
+use Rattle.sitefile.specs.File.{inPlace, size, uplink, link, close, report, done, step, prints, printed}
+use Rattle.sitefile.specs.Worked.{files, Worked}
+
+pub worked : Worked
+unfolding least some count tabulate total checks refuseLeast climb hub depthOf sizeVerdict treeVerdict fresh tableSizes over first meet ring due below joined grouped raised linked pairs lengthVerdict endsVerdict batchVerdict after rise depthRule hubRule markRule groupRule partnerRule carriedRule keeps breaks rulesVerdict child groupCarried stuck split ends lone machineByte linkByte machineBytes linkBytes answer addVerdict reportVerdict named addOf bodyLength whole bodyOf digits line machineLines uplinkLines reportText inPlace size uplink link close report done step prints printed files
+worked = refl

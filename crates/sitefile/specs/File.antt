@@ -1,0 +1,124 @@
+-- What a site file means, record by record, and what the program prints for it.
+use mathlib.Core.Bool.{Bool, true, false, cond, _&&_, _||_, not}
+use mathlib.Core.List.{List, [], _∷_, _++_}
+use Prim.Native.Nat.{ℕ, zero, suc, _+_, _*_}
+use lib.ListN.{length}
+use lib.Dec.{leb, ltb, eqb}
+use Rattle.plain.specs.Table.{at}
+use Rattle.tables.specs.Verdict.{Verdict, Sound, Refused}
+use Rattle.tables.specs.Tree.{sizeVerdict, treeVerdict}
+use Rattle.tables.specs.Tables.{Tables, fresh}
+use Rattle.tables.specs.Batch.{mostLinks}
+use Rattle.tables.specs.Report.{machineBytes, linkBytes}
+use Rattle.tables.specs.Outcome.{Answer, Bytes, addVerdict, addOf, reportVerdict}
+use Rattle.sitefile.specs.Record.{known, bodyLength, bodyOf, word}
+use Rattle.sitefile.specs.Text.{reportText, refusalText}
+
+-- a site file has at most so many bytes
+abbrev pub mostBytes : ℕ
+mostBytes = 16384
+
+-- what has been read: the place of the next record, n (0 before kind 1), the uplinks so far, the tables (none before the last uplink), the
+-- numbers of the links that are not closed
+pub record Read : Type 0 where
+  pub place : ℕ
+  pub n : ℕ
+  pub up : List ℕ
+  pub tables : Tables
+  pub opened : List ℕ
+
+abbrev pub none : Tables
+none = record { depth = []; group = []; mark = [] }
+
+abbrev pub begin : Read
+begin = record { place = 0; n = 0; up = []; tables = none; opened = [] }
+
+-- a record is read and there is more; a report is due; the file ends as it may; or the code and the value of a refusal
+pub data Next : Type 0 where
+  on : Read → Next
+  reports : Read → Bytes → Next
+  ended : Next
+  stop : ℕ → ℕ → Next
+
+-- the tree is whole: every uplink is read
+abbrev pub grown : Read → Bool
+grown r = ltb 0 (r .n) && eqb (length (r .up)) (r .n)
+
+-- kind 1 once, kind 2 n times, then kinds 3, 4 and 5; kind 5 with no open links
+unfoldable pub inPlace : Read → ℕ → Bool
+inPlace r kind =
+    cond (eqb kind 1) (eqb (r .n) 0)
+    (cond (eqb kind 2) (ltb (length (r .up)) (r .n))
+    (cond (eqb kind 5) (grown r && eqb (length (r .opened)) 0) (grown r)))
+
+-- the record done, with the place behind it
+abbrev pub behind : Read → ℕ → ℕ
+behind r kind = r .place + 1 + bodyLength kind
+
+-- what one check of a call leads to
+abbrev pub unlessRefused : Verdict → Next → Next
+unlessRefused Sound next = next
+unlessRefused (Refused code value) next = stop code value
+
+-- kind 1: n, from 1 to 4,096
+unfoldable pub size : Read → ℕ → Next
+size r m = unlessRefused (sizeVerdict m) (on (record { place = behind r 1; n = m; up = []; tables = none; opened = [] }))
+
+-- kind 2: the up of the next machine; Start runs after the last
+unfoldable pub uplink : Read → ℕ → Next
+uplink r u =
+    let up = r .up ++ (u ∷ []) in
+    cond (ltb (length up) (r .n)) (on (record { place = behind r 2; n = r .n; up = up; tables = none; opened = [] }))
+    (unlessRefused (treeVerdict up) (on (record { place = behind r 2; n = r .n; up = up; tables = fresh up; opened = [] })))
+
+-- kind 3: a link; one over the most that a batch may have is refused with the length that the batch would reach
+unfoldable pub link : Read → ℕ → ℕ → Next
+link r a b =
+    cond (ltb (length (r .opened)) (2 * mostLinks))
+    (on (record { place = behind r 3; n = r .n; up = r .up; tables = r .tables; opened = r .opened ++ (a ∷ b ∷ []) }))
+    (stop 7 (2 * mostLinks + 2))
+
+-- kind 4: the open links are added
+unfoldable pub close : Read → Next
+close r =
+    unlessRefused (addVerdict (r .up) (r .opened) (r .tables))
+    (on (record { place = behind r 4; n = r .n; up = r .up; tables = addOf (r .up) (r .opened) (r .tables) .lent; opened = [] }))
+
+-- kind 5: a report
+unfoldable pub report : Read → Next
+report r =
+    let o : Bytes = record { machines = machineBytes (r .up) (r .tables); links = linkBytes (r .up) (r .tables) } in
+    unlessRefused (reportVerdict (r .up) (r .tables) o)
+    (reports (record { place = behind r 5; n = r .n; up = r .up; tables = r .tables; opened = [] }) o)
+
+-- one record that is known, in place and whole
+unfoldable pub done : Read → ℕ → List ℕ → Next
+done r kind body =
+    cond (eqb kind 1) (size r (word body 0))
+    (cond (eqb kind 2) (uplink r (word body 0))
+    (cond (eqb kind 3) (link r (word body 0) (word body 1))
+    (cond (eqb kind 4) (close r) (report r))))
+
+-- the next record: 11 unknown kind, 12 known kind out of place, 10 the file ends inside it, before the last kind 2 or with links not closed
+unfoldable pub step : List ℕ → Read → Next
+step file r =
+    let kind = at file (r .place) in
+    cond (leb (length file) (r .place)) (cond (grown r && eqb (length (r .opened)) 0) ended (stop 10 (length file)))
+    (cond (not (known kind)) (stop 11 (r .place))
+    (cond (not (inPlace r kind)) (stop 12 (r .place))
+    (cond (ltb (length file) (behind r kind)) (stop 10 (length file))
+    (done r kind (bodyOf file (r .place))))))
+
+-- what the next k records print
+unfoldable pub prints : ℕ → List ℕ → Read → List ℕ
+prints zero file r = []
+prints (suc k) file r = elim (step file r) [
+  | on r′ ↦ prints k file r′
+  | reports r′ o ↦ reportText (r′ .up) o ++ prints k file r′
+  | ended ↦ []
+  | stop code value ↦ refusalText code value
+]
+
+-- what the program prints for a file; 13, longer than 16,384 bytes, is looked at first. Each record takes a byte, so there are no more than the file has
+unfoldable pub printed : List ℕ → List ℕ
+printed file = cond (ltb mostBytes (length file)) (refusalText 13 mostBytes) (prints (suc (length file)) file begin)

@@ -1,0 +1,5 @@
+pub mod Record
+pub mod Text
+pub mod File
+pub mod Next
+pub mod Worked

@@ -1,0 +1,40 @@
+-- The text of a report and of a refusal, as bytes.
+use mathlib.Core.Bool.{cond}
+use mathlib.Core.List.{List, [], _∷_, _++_}
+use Prim.Native.Nat.{ℕ, zero, suc, _+_, _/_, _%_}
+use lib.ListN.{length}
+use lib.Dec.{eqb, ltb}
+use Rattle.plain.specs.Table.{at}
+use Rattle.tables.specs.Outcome.{Bytes, named}
+
+-- the decimal digits of n, the first of them not 0 unless it is the only one; k is at least the number of digits
+unfoldable pub digits : ℕ → ℕ → List ℕ
+digits zero n = []
+digits (suc k) n = cond (ltb n 10) ((48 + n) ∷ []) (digits k (n / 10) ++ ((48 + n % 10) ∷ []))
+
+-- a number of 64 bits has at most 20
+abbrev pub decimal : ℕ → List ℕ
+decimal n = digits 20 n
+
+-- a letter and two numbers, with a space before each, and a line end
+unfoldable pub line : ℕ → ℕ → ℕ → List ℕ
+line letter a b = letter ∷ 32 ∷ (decimal a ++ (32 ∷ (decimal b ++ (10 ∷ []))))
+
+-- `M machine byte` for each nonzero byte of the machines from k on, m of them, in number order
+unfoldable pub machineLines : List ℕ → ℕ → ℕ → List ℕ
+machineLines bytes k zero = []
+machineLines bytes k (suc m) = cond (eqb (at bytes k) 0) [] (line 77 k (at bytes k)) ++ machineLines bytes (suc k) m
+
+-- `L machine up` for each choke uplink, likewise
+unfoldable pub uplinkLines : List ℕ → List ℕ → ℕ → ℕ → List ℕ
+uplinkLines up bytes k zero = []
+uplinkLines up bytes k (suc m) = cond (eqb (at bytes k) 0) [] (line 76 k (at up k)) ++ uplinkLines up bytes (suc k) m
+
+-- the text of a report: its `M` lines, its `L` lines, then `T chokes links`, the two totals
+unfoldable pub reportText : List ℕ → Bytes → List ℕ
+reportText up o =
+    machineLines (o .machines) 0 (length up) ++ (uplinkLines up (o .links) 0 (length up) ++ line 84 (named (o .machines)) (named (o .links)))
+
+-- the text of a refusal: `R code value`
+abbrev pub refusalText : ℕ → ℕ → List ℕ
+refusalText code value = line 82 code value

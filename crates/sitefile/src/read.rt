@@ -1,0 +1,1 @@
+// The reader of the site file.
