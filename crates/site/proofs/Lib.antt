@@ -14,3 +14,5 @@ pub mod Raising
 pub mod Renaming
 pub mod Linking
 pub mod Applying
+pub mod Searching
+pub mod Reporting

@@ -4,3 +4,4 @@ pub mod Checked
 pub mod TreeCheck
 pub mod RulesCheck
 pub mod RingStep
+pub mod ReportFill

@@ -1,11 +1,12 @@
 // A site of machines over lent slices: Start, Add and Report.
 ghost use mathlib.Core.Path.{_≡_};
-ghost use Rattle.tables.specs.Outcome.{startOf, addOf};
-ghost use Rattle.site.specs.Lent.{tablesOf, outcome};
+ghost use Rattle.tables.specs.Outcome.{startOf, addOf, reportOf};
+ghost use Rattle.site.specs.Lent.{tablesOf, bytesOf, outcome};
 
 mod batch;
 mod checks;
 mod fill;
+mod report;
 mod ring;
 mod rules;
 mod table;
@@ -93,6 +94,38 @@ impl Site {
         Answer {
             code: 0,
             value: rise,
+        }
+    }
+
+    // The choke machines and the choke uplinks. What the two outputs held does not matter.
+    pub fn report(
+        up: &[u16],
+        depth: &[u16],
+        group: &[u16],
+        mark: &[u8],
+        machines: &mut [u8],
+        links: &mut [u8],
+    ) -> Answer
+        ensures { λ r. ⌜ outcome (r .code) (r .value) (bytesOf (now (machines .exit)) (now (links .exit)))
+            ≡ reportOf (now (up .entry)) (tablesOf (now (depth .entry)) (now (group .entry)) (now (mark .entry))) (bytesOf (now (machines .entry)) (now (links .entry))) ⌝ }
+    {
+        let lengths = checks::sizes(up.len(), depth.len(), group.len(), mark.len());
+        let Check::Sound = lengths else {
+            return checks::refusal(lengths);
+        };
+        let outputs = checks::outputs(up.len(), machines.len(), links.len());
+        let Check::Sound = outputs else {
+            return checks::refusal(outputs);
+        };
+        let tables = checks::tables(up, depth, group, mark);
+        let Check::Sound = tables else {
+            return checks::refusal(tables);
+        };
+        let top = tree::hub(up);
+        let chokes = report::fill(up, group, mark, top, machines, links);
+        Answer {
+            code: 0,
+            value: chokes,
         }
     }
 }

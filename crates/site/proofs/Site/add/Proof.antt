@@ -4,112 +4,82 @@ use native.Mathlib.Omega.{arith}
 use borrow.Author.Needs.{needs}
 use Rattle.site.proofs.Site.add.Statement.{statement}
 use Rattle.site.proofs.Site.add.Tie as tie
-use Rattle.site.proofs.Site.add.Reads as reads
-use Rattle.site.proofs.Site.add.Lts as lts
-use Rattle.site.proofs.batch.check.Reads as check-reads
-use Rattle.site.proofs.checks.refusal.Reads as refusal-reads
-use Rattle.site.proofs.checks.sizes.Reads as sizes-reads
-use Rattle.site.proofs.checks.tables.Reads as tables-reads
-use Rattle.site.proofs.ring.apply.Reads as apply-reads
 
--- src/lib.rt:80:13
 sizes-requires : tie.Need-sizes-requires
 sizes-requires c κs = search needs
 
 enum-told : tie.Need-enum-told
 enum-told c = search needs
 
--- src/lib.rt:82:13
 enum-told-2 : tie.Need-enum-told-2
 enum-told-2 c = search needs
 
--- src/lib.rt:82:13
 refusal-requires : tie.Need-refusal-requires
 refusal-requires c κs = search needs
 
--- src/lib.rt:82:13
 returns : tie.Need-returns
 returns c = add-lengths _ _ _ _ _ (c .before .before .before .sizes .ensures) (c .before .enum-told2 .given .1) (c .refusal .ensures)
 
--- src/lib.rt:84:13
 tables-requires : tie.Need-tables-requires
 tables-requires c κs = sizes-of _ _ _ _ (told (c .before .before .before .enum-told .given .1) (c .before .before .before .before .before .sizes .ensures))
 
 enum-told-3 : tie.Need-enum-told-3
 enum-told-3 c = search needs
 
--- src/lib.rt:86:13
 enum-told-4 : tie.Need-enum-told-4
 enum-told-4 c = search needs
 
--- src/lib.rt:86:13
 refusal-requires-2 : tie.Need-refusal-requires-2
 refusal-requires-2 c κs = search needs
 
--- src/lib.rt:86:13
 same-length : tie.Need-same-length
 same-length c = search needs
 
--- src/lib.rt:86:13
 same-length-2 : tie.Need-same-length-2
 same-length-2 c = search needs
 
--- src/lib.rt:86:13
 same-length-3 : tie.Need-same-length-3
 same-length-3 c = search needs
 
--- src/lib.rt:86:13
 returns-2 : tie.Need-returns-2
 returns-2 c = add-tables _ _ _ _ _ (c .before .before .before .before .before .before .before .before .before .sizes .ensures) (c .before .before .before .before .before .before .before .enum-told .given .1) (c .before .before .before .tables .ensures) (c .before .enum-told4 .given .1) (c .refusal2 .ensures)
 
--- src/lib.rt:88:13
 check-requires : tie.Need-check-requires
 check-requires c κs = search needs
 
 enum-told-5 : tie.Need-enum-told-5
 enum-told-5 c = search needs
 
--- src/lib.rt:90:13
 enum-told-6 : tie.Need-enum-told-6
 enum-told-6 c = search needs
 
--- src/lib.rt:90:13
 refusal-requires-3 : tie.Need-refusal-requires-3
 refusal-requires-3 c κs = search needs
 
--- src/lib.rt:90:13
 same-length-4 : tie.Need-same-length-4
 same-length-4 c = search needs
 
--- src/lib.rt:90:13
 same-length-5 : tie.Need-same-length-5
 same-length-5 c = search needs
 
--- src/lib.rt:90:13
 same-length-6 : tie.Need-same-length-6
 same-length-6 c = search needs
 
--- src/lib.rt:90:13
 returns-3 : tie.Need-returns-3
 returns-3 c = add-batch _ _ _ _ _ (c .before .before .before .before .before .before .before .before .before .before .before .before .sizes .ensures) (c .before .before .before .before .before .before .before .before .before .before .enum-told .given .1) (c .before .before .before .before .before .before .tables .ensures) (c .before .before .before .before .enum-told3 .given .1) (c .before .before .before .check .ensures) (c .before .enum-told6 .given .1) (c .refusal3 .ensures)
 
--- src/lib.rt:92:13
 apply-requires : tie.Need-apply-requires
 apply-requires c κs = add-ready _ _ _ _ _ (c .before .before .before .before .before .before .before .before .before .before .before .before .before .before .sizes .ensures) (c .before .before .before .before .before .before .before .before .before .before .before .before .enum-told .given .1) (c .before .before .before .before .before .before .before .before .tables .ensures) (c .before .before .before .before .before .before .enum-told3 .given .1) (c .before .before .before .before .before .check .ensures) (c .before .before .before .enum-told5 .given .1)
 
--- src/lib.rt:70:5
 same-length-7 : tie.Need-same-length-7
 same-length-7 c = search needs
 
--- src/lib.rt:70:5
 same-length-8 : tie.Need-same-length-8
 same-length-8 c = search needs
 
--- src/lib.rt:70:5
 same-length-9 : tie.Need-same-length-9
 same-length-9 c = search needs
 
--- src/lib.rt:70:5
 returns-4 : tie.Need-returns-4
 returns-4 c = add-done _ _ _ _ _ (c .before .before .before .before .before .before .before .before .before .before .before .before .before .before .before .before .before .before .before .sizes .ensures) (c .before .before .before .before .before .before .before .before .before .before .before .before .before .before .before .before .before .enum-told .given .1) (c .before .before .before .before .before .before .before .before .before .before .before .before .before .tables .ensures) (c .before .before .before .before .before .before .before .before .before .before .before .enum-told3 .given .1) (c .before .before .before .before .before .before .before .before .before .before .check .ensures) (c .before .before .before .before .before .before .before .before .enum-told5 .given .1) (c .before .before .before .before .apply .ensures)
 

@@ -8,43 +8,28 @@ use native.Mathlib.Omega.{arith}
 use borrow.Author.Needs.{needs}
 use Rattle.site.proofs.Site.start.Statement.{statement}
 use Rattle.site.proofs.Site.start.Tie as tie
-use Rattle.site.proofs.Site.start.Reads as reads
-use Rattle.site.proofs.Site.start.Lts as lts
-use Rattle.site.proofs.checks.refusal.Reads as refusal-reads
-use Rattle.site.proofs.checks.sizes.Reads as sizes-reads
-use Rattle.site.proofs.fill.clear.Reads as clear-reads
-use Rattle.site.proofs.fill.copy.Reads as copy-reads
-use Rattle.site.proofs.fill.number.Reads as number-reads
-use Rattle.site.proofs.tree.check.Reads as check-reads
 
--- src/lib.rt:54:13
 sizes-requires : tie.Need-sizes-requires
 sizes-requires c κs = search needs
 
 enum-told : tie.Need-enum-told
 enum-told c = search needs
 
--- src/lib.rt:56:13
 enum-told-2 : tie.Need-enum-told-2
 enum-told-2 c = search needs
 
--- src/lib.rt:56:13
 refusal-requires : tie.Need-refusal-requires
 refusal-requires c κs = search needs
 
--- src/lib.rt:56:13
 returns : tie.Need-returns
 returns c = start-lengths _ _ _ _ (c .before .before .before .sizes .ensures) (c .before .enum-told2 .given .1) (c .refusal .ensures)
 
--- src/lib.rt:59:37
 array-borrow-prefix-known : tie.Need-array-borrow-prefix-known
 array-borrow-prefix-known c = sizes-of _ _ _ _ (told (c .enum-told .given .1) (c .before .before .sizes .ensures)) .few
 
--- src/lib.rt:59:37
 slice-aggregate-check : tie.Need-slice-aggregate-check
 slice-aggregate-check c = sym (length-take-le _ _ (sizes-of _ _ _ _ (told (c .before .enum-told .given .1) (c .before .before .before .sizes .ensures)) .few))
 
--- src/lib.rt:59:13
 check-requires : tie.Need-check-requires
 check-requires c κs = let few = sizes-of _ _ _ _ (told (c .before .enum-told .given .1) (c .before .before .before .sizes .ensures)) .few in
     record { few = few; size = length-take-le _ _ few }
@@ -52,52 +37,40 @@ check-requires c κs = let few = sizes-of _ _ _ _ (told (c .before .enum-told .g
 enum-told-3 : tie.Need-enum-told-3
 enum-told-3 c = search needs
 
--- src/lib.rt:61:13
 enum-told-4 : tie.Need-enum-told-4
 enum-told-4 c = search needs
 
--- src/lib.rt:61:13
 refusal-requires-2 : tie.Need-refusal-requires-2
 refusal-requires-2 c κs = search needs
 
--- src/lib.rt:61:13
 returns-2 : tie.Need-returns-2
 returns-2 c = start-tree _ _ _ _ (c .before .before .before .before .before .before .before .before .sizes .ensures) (c .before .before .before .before .before .before .enum-told .given .1) (c .before .before .before .before .check .ensures .verdict) (c .before .enum-told4 .given .1) (c .refusal2 .ensures)
 
--- src/lib.rt:63:20
 array-share-prefix-known : tie.Need-array-share-prefix-known
 array-share-prefix-known c = front-le _ (c .before .before .before .check .last .1 .0) (drop (length (c .before .before .before .before .before .before .before .before .before .before .before .before .args .up .now)) (replicate 4096 0)) (c .before .before .before .check .ensures .size)
 
--- src/lib.rt:63:20
 slice-aggregate-copy : tie.Need-slice-aggregate-copy
 slice-aggregate-copy c = front-size _ (c .before .before .before .before .check .last .1 .0) (drop (length (c .before .before .before .before .before .before .before .before .before .before .before .before .before .args .up .now)) (replicate 4096 0)) (c .before .before .before .before .check .ensures .size)
 
--- src/lib.rt:63:9
 copy-requires : tie.Need-copy-requires
 copy-requires c κs = sizes-of _ _ _ _ (told (c .before .before .before .before .before .before .before .enum-told .given .1) (c .before .before .before .before .before .before .before .before .before .sizes .ensures)) .depth-size
     ∙ front-size _ (c .before .before .before .before .before .check .last .1 .0) (drop (length (c .before .before .before .before .before .before .before .before .before .before .before .before .before .before .args .up .now)) (replicate 4096 0)) (c .before .before .before .before .before .check .ensures .size)
 
--- src/lib.rt:64:9
 number-requires : tie.Need-number-requires
 number-requires c κs = let l = sizes-of _ _ _ _ (told (c .before .before .before .before .before .before .before .before .before .before .before .enum-told .given .1) (c .before .before .before .before .before .before .before .before .before .before .before .before .before .sizes .ensures)) in omega (arith, l .few, l .group-size)
 
--- src/lib.rt:65:9
 clear-requires : tie.Need-clear-requires
 clear-requires c κs = search needs
 
--- src/lib.rt:49:5
 same-length : tie.Need-same-length
 same-length c = search needs
 
--- src/lib.rt:49:5
 same-length-2 : tie.Need-same-length-2
 same-length-2 c = search needs
 
--- src/lib.rt:49:5
 same-length-3 : tie.Need-same-length-3
 same-length-3 c = search needs
 
--- src/lib.rt:49:5
 returns-3 : tie.Need-returns-3
 returns-3 c = start-done _ _ _ _ (c .before .before .before .before .before .before .before .before .before .before .before .before .before .before .before .before .before .before .before .before .sizes .ensures) (c .before .before .before .before .before .before .before .before .before .before .before .before .before .before .before .before .before .before .enum-told .given .1) (c .before .before .before .before .before .before .before .before .before .before .before .before .before .before .before .before .check .ensures .verdict) (c .before .before .before .before .before .before .before .before .before .before .before .before .before .enum-told3 .given .1)
     (c .before .before .before .before .before .before .before .before .before .before .copy .ensures ∙ take-at _ _ _ (c .before .before .before .before .before .before .before .before .before .before .before .before .before .before .before .before .check .ensures .size) ∙ c .before .before .before .before .before .before .before .before .before .before .before .before .before .before .before .before .check .ensures .depths (ap verdictOf (c .before .before .before .before .before .before .before .before .before .before .before .before .before .enum-told3 .given .1)))

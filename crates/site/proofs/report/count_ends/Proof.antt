@@ -1,0 +1,53 @@
+use Prim.Native.Nat.{_-_}
+use native.Mathlib.Omega.{arith}
+use lib.ListN.{length}
+use borrow.Author.Needs.{needs}
+use Rattle.tables.specs.Report.{ends}
+use Rattle.site.proofs.Searching.{Counted, counted-none, counted-more, counted-all}
+use Rattle.site.proofs.report.count_ends.Statement.{statement}
+use Rattle.site.proofs.report.count_ends.Tie as tie
+
+abbrev Inv-loop : tie.InvT-loop
+Inv-loop up top w n₀ v₀ n v = Counted (length up) (ends up w) v n
+
+abbrev μ-loop : tie.MeasureT-loop
+μ-loop up top w n₀ v₀ n v = length up - v
+
+loop-holds : tie.Need-loop-holds Inv-loop μ-loop
+loop-holds c = counted-none _ _
+
+ends-requires : tie.Need-ends-requires Inv-loop μ-loop
+ends-requires c κs = search needs
+
+one-requires : tie.Need-one-requires Inv-loop μ-loop
+one-requires c κs = search needs
+
+add-n : tie.Need-add-n Inv-loop μ-loop
+add-n c = let q = counted-more (c .before .before .before .loop .inv) (c .before .before .loop-test .taken) (c .before .ends .ensures) (c .one .ensures) in omega arith
+
+add-v : tie.Need-add-v Inv-loop μ-loop
+add-v c = search needs
+
+loop-less : tie.Need-loop-less Inv-loop μ-loop
+loop-less c = search needs
+
+loop-again : tie.Need-loop-again Inv-loop μ-loop
+loop-again c = counted-more (c .before .before .before .loop .inv) (c .before .before .loop-test .taken) (c .before .ends .ensures) (c .one .ensures)
+
+returns : tie.Need-returns Inv-loop μ-loop
+returns c = counted-all (c .before .loop .inv) (c .loop-test .left)
+
+pub count-ends-spec : {M : Type 1} → statement M
+count-ends-spec =
+    tie.close
+    (tie.spec
+    Inv-loop
+    μ-loop
+    loop-holds
+    ends-requires
+    one-requires
+    add-n
+    add-v
+    loop-less
+    loop-again
+    returns)

@@ -1,0 +1,58 @@
+use mathlib.Core.Bool.{not}
+use mathlib.Core.Path.{refl}
+use Prim.Native.Nat.{_-_}
+use native.Mathlib.Omega.{arith}
+use lib.Dec.{eqb}
+use lib.ListN.{length}
+use borrow.Author.Needs.{needs}
+use Rattle.plain.specs.Table.{at}
+use Rattle.tables.specs.Outcome.{named}
+use Rattle.site.proofs.Searching.{Counted, counted-none, counted-more, counted-all}
+use Rattle.site.proofs.report.count_named.Statement.{statement}
+use Rattle.site.proofs.report.count_named.Tie as tie
+
+abbrev Inv-loop : tie.InvT-loop
+Inv-loop bytes n₀ w₀ n w = Counted (length bytes) (λ x. not (eqb (at bytes x) 0)) w n
+
+abbrev μ-loop : tie.MeasureT-loop
+μ-loop bytes n₀ w₀ n w = length bytes - w
+
+loop-holds : tie.Need-loop-holds Inv-loop μ-loop
+loop-holds c = counted-none _ _
+
+shared-slice-read-one : tie.Need-shared-slice-read-one Inv-loop μ-loop
+shared-slice-read-one c = search needs
+
+one-requires : tie.Need-one-requires Inv-loop μ-loop
+one-requires c κs = search needs
+
+add-n : tie.Need-add-n Inv-loop μ-loop
+add-n c = let q = counted-more (c .before .before .before .loop .inv) (c .before .before .loop-test .taken) refl (c .one .ensures) in omega arith
+
+add-w : tie.Need-add-w Inv-loop μ-loop
+add-w c = search needs
+
+loop-less : tie.Need-loop-less Inv-loop μ-loop
+loop-less c = search needs
+
+loop-again : tie.Need-loop-again Inv-loop μ-loop
+loop-again c = counted-more (c .before .before .before .loop .inv) (c .before .before .loop-test .taken) refl (c .one .ensures)
+
+returns : tie.Need-returns Inv-loop μ-loop
+unfolding named
+returns c = counted-all (c .before .loop .inv) (c .loop-test .left)
+
+pub count-named-spec : {M : Type 1} → statement M
+count-named-spec =
+    tie.close
+    (tie.spec
+    Inv-loop
+    μ-loop
+    loop-holds
+    shared-slice-read-one
+    one-requires
+    add-n
+    add-w
+    loop-less
+    loop-again
+    returns)

@@ -1,0 +1,50 @@
+use Prim.Native.Nat.{_≤_, _-_}
+use native.Mathlib.Omega.{arith}
+use lib.ListN.{length}
+use borrow.Author.Needs.{needs}
+use Rattle.plain.proofs.Loops.{NoneBelow}
+use Rattle.site.specs.ReportFill.{loneEnd}
+use Rattle.site.proofs.Searching.{found, missed, unfound}
+use Rattle.site.proofs.report.ends_lone.Statement.{statement}
+use Rattle.site.proofs.report.ends_lone.Tie as tie
+
+abbrev Inv-loop : tie.InvT-loop
+Inv-loop up mark top w v₀ v = (v ≤ length up) × NoneBelow (loneEnd up mark w) v
+
+abbrev μ-loop : tie.MeasureT-loop
+μ-loop up mark top w v₀ v = length up - v
+
+loop-holds : tie.Need-loop-holds Inv-loop μ-loop
+loop-holds c = (omega arith, λ k h. absurd (omega arith))
+
+lone-end-requires : tie.Need-lone-end-requires Inv-loop μ-loop
+lone-end-requires c κs = search needs
+
+returns : tie.Need-returns Inv-loop μ-loop
+returns c = found _ _ _ (c .before .before .loop-test .taken) (c .before .lone-end .ensures) (c .if1 .taken)
+
+add-v : tie.Need-add-v Inv-loop μ-loop
+add-v c = search needs
+
+loop-less : tie.Need-loop-less Inv-loop μ-loop
+loop-less c = search needs
+
+loop-again : tie.Need-loop-again Inv-loop μ-loop
+loop-again c = (omega arith, missed _ _ (c .before .before .before .loop .inv .1) (c .before .lone-end .ensures) (c .if1 .left))
+
+returns-2 : tie.Need-returns-2 Inv-loop μ-loop
+returns-2 c = unfound _ _ _ (c .before .loop .inv .1) (c .loop-test .left)
+
+pub ends-lone-spec : {M : Type 1} → statement M
+ends-lone-spec =
+    tie.close
+    (tie.spec
+    Inv-loop
+    μ-loop
+    loop-holds
+    lone-end-requires
+    returns
+    add-v
+    loop-less
+    loop-again
+    returns-2)

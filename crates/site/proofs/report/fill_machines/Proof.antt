@@ -1,0 +1,58 @@
+use mathlib.Core.List.{List}
+use mathlib.Core.Path.{_≡_}
+use Prim.Native.Nat.{ℕ, _≤_, _-_}
+use native.Mathlib.Omega.{arith}
+use lib.ListN.{length, length-set}
+use borrow.Author.Needs.{needs}
+use Rattle.plain.proofs.Fill.{Filled, fill-more}
+use Rattle.plain.proofs.Tabulate.{tabulated}
+use Rattle.tables.specs.Report.{machineByte, machineBytes}
+use Rattle.site.specs.Lent.{tablesOf}
+use Rattle.site.proofs.report.fill_machines.Statement.{statement}
+use Rattle.site.proofs.report.fill_machines.Tie as tie
+
+abbrev Inv-loop : tie.InvT-loop
+Inv-loop up group mark top machines₀ w₀ machines w = (w ≤ length up) × (length machines ≡ length up) × ((d : List ℕ) → Filled machines w (machineByte up (tablesOf d group mark)))
+
+abbrev μ-loop : tie.MeasureT-loop
+μ-loop up group mark top machines₀ w₀ machines w = length up - w
+
+loop-holds : tie.Need-loop-holds Inv-loop μ-loop
+loop-holds c = (omega arith, c .before .before .before .before .pre .1, λ d k h. absurd (omega arith))
+
+machine-byte-requires : tie.Need-machine-byte-requires Inv-loop μ-loop
+machine-byte-requires c κs = search needs
+
+slice-write-machines : tie.Need-slice-write-machines Inv-loop μ-loop
+slice-write-machines c = search needs
+
+add-w : tie.Need-add-w Inv-loop μ-loop
+add-w c = search needs
+
+loop-less : tie.Need-loop-less Inv-loop μ-loop
+loop-less c = search needs
+
+loop-again : tie.Need-loop-again Inv-loop μ-loop
+loop-again c = let l = c .before .before .loop in (omega arith, simp length-set (l .inv .1), λ d. fill-more (l .machines) (l .w) _ _ (omega arith) (l .inv .2 d) (c .machine-byte .ensures d))
+
+same-length : tie.Need-same-length Inv-loop μ-loop
+same-length c = search needs
+
+returns : tie.Need-returns Inv-loop μ-loop
+unfolding machineBytes
+returns c = let l = c .before .loop in λ d. tabulated _ _ _ (l .inv .1) (λ k h. l .inv .2 d k (omega arith))
+
+pub fill-machines-spec : {M : Type 1} → statement M
+fill-machines-spec =
+    tie.close
+    (tie.spec
+    Inv-loop
+    μ-loop
+    loop-holds
+    machine-byte-requires
+    slice-write-machines
+    add-w
+    loop-less
+    loop-again
+    same-length
+    returns)

@@ -1,0 +1,50 @@
+use Prim.Native.Nat.{_≤_, _-_}
+use native.Mathlib.Omega.{arith}
+use lib.ListN.{length}
+use borrow.Author.Needs.{needs}
+use Rattle.plain.proofs.Loops.{NoneBelow}
+use Rattle.site.specs.ReportFill.{carriedMember}
+use Rattle.site.proofs.Searching.{found, missed, unfound}
+use Rattle.site.proofs.report.group_carried.Statement.{statement}
+use Rattle.site.proofs.report.group_carried.Tie as tie
+
+abbrev Inv-loop : tie.InvT-loop
+Inv-loop group mark g m₀ m = (m ≤ length group) × NoneBelow (carriedMember group mark g) m
+
+abbrev μ-loop : tie.MeasureT-loop
+μ-loop group mark g m₀ m = length group - m
+
+loop-holds : tie.Need-loop-holds Inv-loop μ-loop
+loop-holds c = (omega arith, λ k h. absurd (omega arith))
+
+carried-member-requires : tie.Need-carried-member-requires Inv-loop μ-loop
+carried-member-requires c κs = search needs
+
+returns : tie.Need-returns Inv-loop μ-loop
+returns c = found _ _ _ (c .before .before .loop-test .taken) (c .before .carried-member .ensures) (c .if1 .taken)
+
+add-m : tie.Need-add-m Inv-loop μ-loop
+add-m c = search needs
+
+loop-less : tie.Need-loop-less Inv-loop μ-loop
+loop-less c = search needs
+
+loop-again : tie.Need-loop-again Inv-loop μ-loop
+loop-again c = (omega arith, missed _ _ (c .before .before .before .loop .inv .1) (c .before .carried-member .ensures) (c .if1 .left))
+
+returns-2 : tie.Need-returns-2 Inv-loop μ-loop
+returns-2 c = unfound _ _ _ (c .before .loop .inv .1) (c .loop-test .left)
+
+pub group-carried-spec : {M : Type 1} → statement M
+group-carried-spec =
+    tie.close
+    (tie.spec
+    Inv-loop
+    μ-loop
+    loop-holds
+    carried-member-requires
+    returns
+    add-m
+    loop-less
+    loop-again
+    returns-2)

@@ -1,0 +1,46 @@
+use borrow.Author.Needs.{needs}
+use Rattle.tables.specs.Report.{machineByte}
+use Rattle.site.proofs.Keeping.{at-hub, off-hub}
+use Rattle.site.proofs.report.machine_byte.Statement.{statement}
+use Rattle.site.proofs.report.machine_byte.Tie as tie
+
+split-requires : tie.Need-split-requires
+split-requires c κs = search needs
+
+returns : tie.Need-returns
+unfolding machineByte
+returns c = λ d. rw (at-hub _ (c .before .before .before .before .before .before .pre .top) (c .before .before .if1 .taken), ← c .before .split .ensures d _, c .if2 .taken)
+
+lone-byte-requires : tie.Need-lone-byte-requires
+lone-byte-requires c κs = search needs
+
+stuck-requires : tie.Need-stuck-requires
+stuck-requires c κs = search needs
+
+returns-2 : tie.Need-returns-2
+unfolding machineByte
+returns-2 c = λ d. rw (off-hub _ (c .before .before .before .before .before .before .pre .top) (c .before .before .if1 .left), ← c .before .stuck .ensures d, c .if3 .taken)
+
+lone-byte-requires-2 : tie.Need-lone-byte-requires-2
+lone-byte-requires-2 c κs = search needs
+
+returns-3 : tie.Need-returns-3
+unfolding machineByte
+returns-3 c = λ d. rw (at-hub _ (c .before .before .before .before .before .before .before .pre .top) (c .before .before .before .if1 .taken), ← c .before .before .split .ensures d _, c .before .if2 .left) (c .lone-byte .ensures d _)
+
+returns-4 : tie.Need-returns-4
+unfolding machineByte
+returns-4 c = λ d. rw (off-hub _ (c .before .before .before .before .before .before .before .pre .top) (c .before .before .before .if1 .left), ← c .before .before .stuck .ensures d, c .before .if3 .left) (c .lone-byte2 .ensures d _)
+
+pub machine-byte-spec : {M : Type 1} → statement M
+machine-byte-spec =
+    tie.close
+    (tie.spec
+    split-requires
+    returns
+    lone-byte-requires
+    stuck-requires
+    returns-2
+    lone-byte-requires-2
+    returns-3
+    returns-4)

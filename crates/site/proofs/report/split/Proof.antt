@@ -1,0 +1,54 @@
+use Prim.Native.Nat.{_≤_, _-_}
+use native.Mathlib.Omega.{arith}
+use lib.ListN.{length}
+use borrow.Author.Needs.{needs}
+use Rattle.plain.proofs.Loops.{NoneBelow}
+use Rattle.plain.specs.Search.{some}
+use Rattle.tables.specs.Report.{split}
+use Rattle.site.specs.ReportFill.{inTwo}
+use Rattle.site.proofs.Searching.{found, missed, unfound}
+use Rattle.site.proofs.report.split.Statement.{statement}
+use Rattle.site.proofs.report.split.Tie as tie
+
+abbrev Inv-loop : tie.InvT-loop
+Inv-loop up group top w c₀ c = (c ≤ length up) × NoneBelow (λ x. some (length up) (inTwo up group w x)) c
+
+abbrev μ-loop : tie.MeasureT-loop
+μ-loop up group top w c₀ c = length up - c
+
+loop-holds : tie.Need-loop-holds Inv-loop μ-loop
+loop-holds c = (omega arith, λ k h. absurd (omega arith))
+
+other-group-requires : tie.Need-other-group-requires Inv-loop μ-loop
+other-group-requires c κs = search needs
+
+returns : tie.Need-returns Inv-loop μ-loop
+unfolding split
+returns c = λ d m. found _ _ _ (c .before .before .loop-test .taken) (c .before .other-group .ensures) (c .if1 .taken)
+
+add-c : tie.Need-add-c Inv-loop μ-loop
+add-c c = search needs
+
+loop-less : tie.Need-loop-less Inv-loop μ-loop
+loop-less c = search needs
+
+loop-again : tie.Need-loop-again Inv-loop μ-loop
+loop-again c = (omega arith, missed _ _ (c .before .before .before .loop .inv .1) (c .before .other-group .ensures) (c .if1 .left))
+
+returns-2 : tie.Need-returns-2 Inv-loop μ-loop
+unfolding split
+returns-2 c = λ d m. unfound _ _ _ (c .before .loop .inv .1) (c .loop-test .left)
+
+pub split-spec : {M : Type 1} → statement M
+split-spec =
+    tie.close
+    (tie.spec
+    Inv-loop
+    μ-loop
+    loop-holds
+    other-group-requires
+    returns
+    add-c
+    loop-less
+    loop-again
+    returns-2)

@@ -1,0 +1,26 @@
+use borrow.Author.Needs.{needs}
+use Rattle.tables.specs.Report.{groupCarried}
+use Rattle.site.proofs.Keeping.{stop, on}
+use Rattle.site.proofs.report.stuck_child.Statement.{statement}
+use Rattle.site.proofs.report.stuck_child.Tie as tie
+
+child-requires : tie.Need-child-requires
+child-requires c κs = search needs
+
+returns : tie.Need-returns
+unfolding groupCarried
+returns c = λ d. stop _ (c .before .child .ensures) (c .if1 .taken)
+
+at-requires : tie.Need-at-requires
+at-requires c κs = search needs
+
+group-carried-requires : tie.Need-group-carried-requires
+group-carried-requires c κs = search needs
+
+returns-2 : tie.Need-returns-2
+unfolding groupCarried
+returns-2 c = λ d. on (c .before .before .before .child .ensures) (c .before .before .if1 .left) (rw (c .group-carried .ensures, c .before .at .ensures, c .before .before .before .before .before .before .before .pre .0 .group-size))
+
+pub stuck-child-spec : {M : Type 1} → statement M
+stuck-child-spec =
+    tie.close (tie.spec child-requires returns at-requires group-carried-requires returns-2)
