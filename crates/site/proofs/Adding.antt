@@ -1,12 +1,12 @@
 -- The ways out of Add: the lengths, the tables or the batch are refused, or it is applied. Tables that break no rule are those of a history,
 -- so their depths are right and the ring step may climb by them.
-use mathlib.Core.Path.{_≡_, refl, sym, ap, _∙_}
+use mathlib.Core.Path.{_≡_, sym, ap, _∙_}
 use mathlib.Core.List.{List, [], _∷_, _++_}
-use Prim.Native.Nat.{ℕ, _-_}
+use Prim.Native.Nat.{ℕ}
 use native.Mathlib.Omega.{arith}
 use lib.ListN.{length}
 use Rattle.plain.specs.Table.{tabulate, total}
-use Rattle.tables.specs.Verdict.{Verdict, Sound, checks}
+use Rattle.tables.specs.Verdict.{Sound, checks}
 use Rattle.tables.specs.Tree.{depthOf, sizeVerdict, treeVerdict}
 use Rattle.tables.specs.Tables.{Tables, sized, tableSizes}
 use Rattle.tables.specs.Batch.{pairs, batchVerdict, after, rise}

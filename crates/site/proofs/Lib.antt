@@ -8,6 +8,7 @@ pub mod Keeping
 pub mod Answers
 pub mod Starting
 pub mod Adding
+pub mod Callers
 pub mod Meeting
 pub mod Arms
 pub mod Raising

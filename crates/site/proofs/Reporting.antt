@@ -1,5 +1,5 @@
 -- The ways out of Report: the lengths of the tables or of the outputs are refused, or the tables are, or the outputs are filled.
-use mathlib.Core.Path.{_≡_, refl, sym, ap, _∙_}
+use mathlib.Core.Path.{_≡_, sym, ap, _∙_}
 use mathlib.Core.List.{List, [], _∷_, _++_}
 use Prim.Native.Nat.{ℕ}
 use lib.ListN.{length}

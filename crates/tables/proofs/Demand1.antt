@@ -39,7 +39,7 @@ unfolding rulesVerdict
 rules-view up t = refuse-view 6 (length up) (breaks up t)
 
 -- a batch is refused with 7 or more
-unless-code : {c v : ℕ} (b : Bool) (code value : ℕ) → unless b code value ≡ Refused c v → c ≡ code
+pub unless-code : {c v : ℕ} (b : Bool) (code value : ℕ) → unless b code value ≡ Refused c v → c ≡ code
 unless-code true code value e = not-both e refl
 unless-code false code value e = cc
 
@@ -52,7 +52,7 @@ ends-code {c} {v} n i (p ∷ l) e = let ih = ends-code {c = c} {v = v} n (suc i)
     (λ q. let g : Refused 9 i ≡ Refused c v = rw (f, q) at e in let z : _≡_ {A = ℕ} 9 c = cc in omega arith)
     (λ q. ih (rw (f, q) at e)))
 
-batch-code : {c v : ℕ} (n : ℕ) (batch : List ℕ) → batchVerdict n batch ≡ Refused c v → 7 ≤ c
+pub batch-code : {c v : ℕ} (n : ℕ) (batch : List ℕ) → batchVerdict n batch ≡ Refused c v → 7 ≤ c
 unfolding batchVerdict lengthVerdict
 batch-code n batch e = ⊎-elim
     (λ f. omega (arith, unless-code (eqb (length batch % 2) 0 && leb (length batch) (2 * mostLinks)) 7 (length batch) f))

@@ -1,7 +1,6 @@
+use borrow.Author.Needs.{needs}
 use borrow.Author.Tests.{not-true, not-false}
 use Rattle.site.proofs.Batches.{too-long, by-ends}
-use native.Mathlib.Omega.{arith}
-use borrow.Author.Needs.{needs}
 use Rattle.site.proofs.batch.check.Statement.{statement}
 use Rattle.site.proofs.batch.check.Tie as tie
 

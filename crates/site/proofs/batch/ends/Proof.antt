@@ -1,10 +1,10 @@
 use mathlib.Core.Path.{ap}
-use Rattle.site.specs.Check.{verdictOf}
 use Prim.Native.Nat.{_*_, _-_}
-use lib.ListN.{length}
-use Rattle.site.proofs.Batches.{Passed, passed-none, passed-more, passed-all, refused}
-use borrow.Author.Needs.{needs}
 use native.Mathlib.Omega.{arith}
+use lib.ListN.{length}
+use borrow.Author.Needs.{needs}
+use Rattle.site.specs.Check.{verdictOf}
+use Rattle.site.proofs.Batches.{Passed, passed-none, passed-more, passed-all, refused}
 use Rattle.site.proofs.batch.ends.Statement.{statement}
 use Rattle.site.proofs.batch.ends.Tie as tie
 
@@ -48,7 +48,9 @@ enum-told-2 : tie.Need-enum-told-2 Inv-loop μ-loop
 enum-told-2 c = search needs
 
 returns : tie.Need-returns Inv-loop μ-loop
-returns c = refused (c .before .before .before .before .before .before .loop .inv) (c .before .before .before .before .before .loop-test .taken) (c .before .before .before .before .at .ensures) (c .before .before .before .at2 .ensures) (c .before .before .link .ensures) (ap verdictOf (c .enum-told2 .given .1))
+returns c = let l = c .before .before .before .before .before .before .loop in
+    refused (l .inv) (c .before .before .before .before .before .loop-test .taken) (c .before .before .before .before .at .ensures) (c .before .before .before .at2 .ensures) (c .before .before .link .ensures)
+    (ap verdictOf (c .enum-told2 .given .1))
 
 add-i : tie.Need-add-i Inv-loop μ-loop
 add-i c = search needs
@@ -57,7 +59,9 @@ loop-less : tie.Need-loop-less Inv-loop μ-loop
 loop-less c = search needs
 
 loop-again : tie.Need-loop-again Inv-loop μ-loop
-loop-again c = passed-more (c .before .before .before .before .before .before .loop .inv) (c .before .before .before .before .before .loop-test .taken) (c .before .before .before .before .at .ensures) (c .before .before .before .at2 .ensures) (c .before .before .link .ensures) (ap verdictOf (c .enum-told .given .1))
+loop-again c = let l = c .before .before .before .before .before .before .loop in
+    passed-more (l .inv) (c .before .before .before .before .before .loop-test .taken) (c .before .before .before .before .at .ensures) (c .before .before .before .at2 .ensures) (c .before .before .link .ensures)
+    (ap verdictOf (c .enum-told .given .1))
 
 returns-2 : tie.Need-returns-2 Inv-loop μ-loop
 returns-2 c = passed-all (c .before .loop .inv) (c .loop-test .left)

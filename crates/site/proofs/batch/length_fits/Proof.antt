@@ -1,6 +1,5 @@
-use borrow.Author.Tests.{eq-eqb, ne-eqb}
-use native.Mathlib.Omega.{arith}
 use borrow.Author.Needs.{needs}
+use borrow.Author.Tests.{eq-eqb, ne-eqb}
 use Rattle.site.proofs.batch.length_fits.Statement.{statement}
 use Rattle.site.proofs.batch.length_fits.Tie as tie
 

@@ -1,5 +1,4 @@
 use borrow.Author.Tests.{le-leb, lt-leb, eq-eqb, ne-eqb}
-use borrow.Author.Needs.{needs}
 use Rattle.tables.specs.Batch.{endsVerdict}
 use Rattle.site.proofs.batch.link.Statement.{statement}
 use Rattle.site.proofs.batch.link.Tie as tie

@@ -21,9 +21,10 @@ same-length-2 c = search needs
 
 returns : tie.Need-returns
 returns c = λ d.
-    let m = c .before .before .before .before .before .before .before .before .fill-machines .ensures d in
     let s = c .before .before .before .before .before .before .before .before .before .before .before .before .before .before .before .pre .read in
-    record { machines-are = m; links-are = c .before .before .before .before .fill-links .ensures _ d _ (record { size = s .mark-size; top = s .top }); counted = c .count-named .ensures ∙ ap named m }
+    let m = c .before .before .before .before .before .before .before .before .fill-machines .ensures d in
+    let l = c .before .before .before .before .fill-links .ensures _ d _ (record { size = s .mark-size; top = s .top }) in
+    record { machines-are = m; links-are = l; counted = c .count-named .ensures ∙ ap named m }
 
 pub fill-spec : {M : Type 1} → statement M
 fill-spec =

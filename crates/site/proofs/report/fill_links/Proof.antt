@@ -34,7 +34,11 @@ loop-less : tie.Need-loop-less Inv-loop μ-loop
 loop-less c = search needs
 
 loop-again : tie.Need-loop-again Inv-loop μ-loop
-loop-again c = let l = c .before .before .loop in (omega arith, simp length-set (l .inv .1), λ up d g e. fill-more (l .links) (l .v) _ _ (omega arith) (l .inv .2 up d g e) (c .link-byte .ensures up d g e))
+loop-again c = let l = c .before .before .loop in (
+  omega arith,
+  simp length-set (l .inv .1),
+  λ up d g e. fill-more (l .links) (l .v) _ _ (omega arith) (l .inv .2 up d g e) (c .link-byte .ensures up d g e),
+)
 
 same-length : tie.Need-same-length Inv-loop μ-loop
 same-length c = search needs

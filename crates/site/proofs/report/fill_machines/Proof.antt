@@ -33,7 +33,11 @@ loop-less : tie.Need-loop-less Inv-loop μ-loop
 loop-less c = search needs
 
 loop-again : tie.Need-loop-again Inv-loop μ-loop
-loop-again c = let l = c .before .before .loop in (omega arith, simp length-set (l .inv .1), λ d. fill-more (l .machines) (l .w) _ _ (omega arith) (l .inv .2 d) (c .machine-byte .ensures d))
+loop-again c = let l = c .before .before .loop in (
+  omega arith,
+  simp length-set (l .inv .1),
+  λ d. fill-more (l .machines) (l .w) _ _ (omega arith) (l .inv .2 d) (c .machine-byte .ensures d),
+)
 
 same-length : tie.Need-same-length Inv-loop μ-loop
 same-length c = search needs

@@ -22,7 +22,9 @@ at-requires-2 : tie.Need-at-requires-2
 at-requires-2 c κs = search needs
 
 returns-3 : tie.Need-returns-3
-returns-3 c = on (c .before .before .before .before .before .child .ensures) (c .before .before .before .before .if1 .left) (on (c .before .before .before .child2 .ensures) (c .before .before .if2 .left) (rw (← c .before .at .ensures, ← c .at2 .ensures)))
+returns-3 c = on (c .before .before .before .before .before .child .ensures) (c .before .before .before .before .if1 .left)
+    (on (c .before .before .before .child2 .ensures) (c .before .before .if2 .left)
+    (rw (← c .before .at .ensures, ← c .at2 .ensures)))
 
 pub in-two-spec : {M : Type 1} → statement M
 in-two-spec =

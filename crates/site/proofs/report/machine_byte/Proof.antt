@@ -26,11 +26,13 @@ lone-byte-requires-2 c κs = search needs
 
 returns-3 : tie.Need-returns-3
 unfolding machineByte
-returns-3 c = λ d. rw (at-hub _ (c .before .before .before .before .before .before .before .pre .top) (c .before .before .before .if1 .taken), ← c .before .before .split .ensures d _, c .before .if2 .left) (c .lone-byte .ensures d _)
+returns-3 c = λ d. let t = c .before .before .before .before .before .before .before .pre .top in
+    rw (at-hub _ t (c .before .before .before .if1 .taken), ← c .before .before .split .ensures d _, c .before .if2 .left) (c .lone-byte .ensures d _)
 
 returns-4 : tie.Need-returns-4
 unfolding machineByte
-returns-4 c = λ d. rw (off-hub _ (c .before .before .before .before .before .before .before .pre .top) (c .before .before .before .if1 .left), ← c .before .before .stuck .ensures d, c .before .if3 .left) (c .lone-byte2 .ensures d _)
+returns-4 c = λ d. let t = c .before .before .before .before .before .before .before .pre .top in
+    rw (off-hub _ t (c .before .before .before .if1 .left), ← c .before .before .stuck .ensures d, c .before .if3 .left) (c .lone-byte2 .ensures d _)
 
 pub machine-byte-spec : {M : Type 1} → statement M
 machine-byte-spec =

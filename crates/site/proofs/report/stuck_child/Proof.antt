@@ -19,7 +19,9 @@ group-carried-requires c κs = search needs
 
 returns-2 : tie.Need-returns-2
 unfolding groupCarried
-returns-2 c = λ d. on (c .before .before .before .child .ensures) (c .before .before .if1 .left) (rw (c .group-carried .ensures, c .before .at .ensures, c .before .before .before .before .before .before .before .pre .0 .group-size))
+returns-2 c = λ d.
+    on (c .before .before .before .child .ensures) (c .before .before .if1 .left)
+    (rw (c .group-carried .ensures, c .before .at .ensures, c .before .before .before .before .before .before .before .pre .0 .group-size))
 
 pub stuck-child-spec : {M : Type 1} → statement M
 stuck-child-spec =

@@ -1,10 +1,9 @@
 use mathlib.Core.Bool.{not}
 use mathlib.Core.Path.{ap}
+use borrow.Author.Needs.{needs}
 use borrow.Author.Tests.{eq-eqb, ne-eqb}
 use Rattle.tables.specs.Rules.{carriedRule}
 use Rattle.site.proofs.Keeping.{at-hub, off-hub}
-use native.Mathlib.Omega.{arith}
-use borrow.Author.Needs.{needs}
 use Rattle.site.proofs.rules.carried_rule.Statement.{statement}
 use Rattle.site.proofs.rules.carried_rule.Tie as tie
 
@@ -22,11 +21,13 @@ ringed-requires c κs = search needs
 
 returns : tie.Need-returns
 unfolding carriedRule
-returns c = λ d g. rw (eq-eqb _ 2 (c .before .before .before .match .keys1), ← c .before .before .before .before .before .at .ensures, off-hub _ (c .before .before .before .before .before .before .before .before .pre .top) (c .before .before .if1 .taken), ← c .ringed .ensures)
+returns c = λ d g. let t = c .before .before .before .before .before .before .before .before .pre .top in
+    rw (eq-eqb _ 2 (c .before .before .before .match .keys1), ← c .before .before .before .before .before .at .ensures, off-hub _ t (c .before .before .if1 .taken), ← c .ringed .ensures)
 
 returns-2 : tie.Need-returns-2
 unfolding carriedRule
-returns-2 c = λ d g. rw (eq-eqb _ 2 (c .before .match .keys1), ← c .before .before .before .at .ensures, at-hub _ (c .before .before .before .before .before .before .pre .top) (c .if1 .left)) (ap not (eq-eqb _ _ (c .if1 .left)))
+returns-2 c = λ d g. let t = c .before .before .before .before .before .before .pre .top in
+    rw (eq-eqb _ 2 (c .before .match .keys1), ← c .before .before .before .at .ensures, at-hub _ t (c .if1 .left)) (ap not (eq-eqb _ _ (c .if1 .left)))
 
 returns-3 : tie.Need-returns-3
 unfolding carriedRule

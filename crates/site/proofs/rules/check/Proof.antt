@@ -1,13 +1,13 @@
 use mathlib.Core.Path.{sym}
 use Prim.Native.Nat.{_≤_, _-_}
+use native.Mathlib.Omega.{arith}
 use lib.ListN.{length}
+use borrow.Author.Needs.{needs}
 use Rattle.plain.proofs.Loops.{NoneBelow, none-more}
 use Rattle.tables.proofs.Verdicts.{refuse-at, refuse-none}
 use Rattle.tables.specs.Rules.{breaks, rulesVerdict}
 use Rattle.site.specs.Lent.{tablesOf}
 use Rattle.site.proofs.Keeping.{broken}
-use borrow.Author.Needs.{needs}
-use native.Mathlib.Omega.{arith}
 use Rattle.site.proofs.rules.check.Statement.{statement}
 use Rattle.site.proofs.rules.check.Tie as tie
 

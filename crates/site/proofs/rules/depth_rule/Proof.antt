@@ -1,8 +1,8 @@
 use native.Mathlib.Numerals.{add-one}
-use Rattle.tables.specs.Rules.{depthRule}
-use Rattle.site.proofs.Keeping.{at-hub, off-hub}
 use native.Mathlib.Omega.{arith}
 use borrow.Author.Needs.{needs}
+use Rattle.tables.specs.Rules.{depthRule}
+use Rattle.site.proofs.Keeping.{at-hub, off-hub}
 use Rattle.site.proofs.rules.depth_rule.Statement.{statement}
 use Rattle.site.proofs.rules.depth_rule.Tie as tie
 
@@ -27,7 +27,8 @@ returns c = λ g m. rw (at-hub _ (c .before .before .before .before .pre .top) (
 
 returns-2 : tie.Need-returns-2
 unfolding depthRule
-returns-2 c = λ g m. rw (off-hub _ (c .before .before .before .before .before .before .pre .top) (c .before .before .before .if1 .left), ← c .before .before .at2 .ensures, ← c .before .at3 .ensures, ← c .at4 .ensures, add-one)
+returns-2 c = λ g m.
+    rw (off-hub _ (c .before .before .before .before .before .before .pre .top) (c .before .before .before .if1 .left), ← c .before .before .at2 .ensures, ← c .before .at3 .ensures, ← c .at4 .ensures, add-one)
 
 pub depth-rule-spec : {M : Type 1} → statement M
 depth-rule-spec =

@@ -1,9 +1,7 @@
-use Rattle.site.proofs.Keeping.{within}
+use borrow.Author.Needs.{needs}
 use borrow.Author.Tests.{eq-eqb, ne-eqb}
 use Rattle.tables.specs.Rules.{groupRule}
-use Rattle.site.proofs.Keeping.{at-hub, off-hub, over}
-use native.Mathlib.Omega.{arith}
-use borrow.Author.Needs.{needs}
+use Rattle.site.proofs.Keeping.{name-over, name-within, at-hub, off-hub}
 use Rattle.site.proofs.rules.group_rule.Statement.{statement}
 use Rattle.site.proofs.rules.group_rule.Tie as tie
 
@@ -15,12 +13,10 @@ at-requires : tie.Need-at-requires
 at-requires c κs = search needs
 
 returns-2 : tie.Need-returns-2
-unfolding groupRule
-returns-2 c = λ d m. rw (off-hub _ (c .before .before .before .before .before .pre .top) (c .before .before .if1 .left), ← c .before .at .ensures) (over _ _ _ _ (c .if2 .taken))
+returns-2 c = λ d m. name-over (c .before .before .before .before .before .pre) (c .before .before .if1 .left) (c .before .at .ensures) d m (c .if2 .taken)
 
 returns-3 : tie.Need-returns-3
-unfolding groupRule
-returns-3 c = λ d m. let p = c .before .before .before .before .before .before .pre in rw (off-hub _ (p .top) (c .before .before .before .if1 .left), ← c .before .before .at .ensures) (within _ _ _ (c .before .if2 .left) (p .low) (rw (at-hub _ (p .top) (c .if3 .taken))))
+returns-3 c = let b = c .before .before .before .before .before .before .pre in λ d m. name-within b (c .before .before .before .if1 .left) (c .before .before .at .ensures) d m (c .before .if2 .left) (rw (at-hub _ (b .top) (c .if3 .taken)))
 
 at-requires-2 : tie.Need-at-requires-2
 at-requires-2 c κs = search needs
@@ -29,15 +25,17 @@ at-requires-3 : tie.Need-at-requires-3
 at-requires-3 c κs = search needs
 
 returns-4 : tie.Need-returns-4
-unfolding groupRule
-returns-4 c = λ d m. let p = c .before .before .before .before .before .before .before .before .before .pre in rw (off-hub _ (p .top) (c .before .before .before .before .before .before .if1 .left), ← c .before .before .before .before .before .at .ensures) (within _ _ _ (c .before .before .before .before .if2 .left) (p .low) (rw (off-hub _ (p .top) (c .before .before .before .if3 .left), ← c .before .before .at2 .ensures, ← c .before .at3 .ensures, ne-eqb _ _ (c .if4 .taken))))
+returns-4 c = let b = c .before .before .before .before .before .before .before .before .before .pre in λ d m.
+    name-within b (c .before .before .before .before .before .before .if1 .left) (c .before .before .before .before .before .at .ensures) d m (c .before .before .before .before .if2 .left)
+    (rw (off-hub _ (b .top) (c .before .before .before .if3 .left), ← c .before .before .at2 .ensures, ← c .before .at3 .ensures, ne-eqb _ _ (c .if4 .taken)))
 
 at-requires-4 : tie.Need-at-requires-4
 at-requires-4 c κs = search needs
 
 returns-5 : tie.Need-returns-5
-unfolding groupRule
-returns-5 c = λ d m. let p = c .before .before .before .before .before .before .before .before .before .before .pre in rw (off-hub _ (p .top) (c .before .before .before .before .before .before .before .if1 .left), ← c .before .before .before .before .before .before .at .ensures) (within _ _ _ (c .before .before .before .before .before .if2 .left) (p .low) (rw (off-hub _ (p .top) (c .before .before .before .before .if3 .left), ← c .before .before .before .at2 .ensures, ← c .before .before .at3 .ensures, eq-eqb _ _ (c .before .if4 .left), ← c .at4 .ensures)))
+returns-5 c = let b = c .before .before .before .before .before .before .before .before .before .before .pre in λ d m.
+    name-within b (c .before .before .before .before .before .before .before .if1 .left) (c .before .before .before .before .before .before .at .ensures) d m (c .before .before .before .before .before .if2 .left)
+    (rw (off-hub _ (b .top) (c .before .before .before .before .if3 .left), ← c .before .before .before .at2 .ensures, ← c .before .before .at3 .ensures, eq-eqb _ _ (c .before .if4 .left), ← c .at4 .ensures))
 
 pub group-rule-spec : {M : Type 1} → statement M
 group-rule-spec =

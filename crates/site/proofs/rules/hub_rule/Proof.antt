@@ -1,8 +1,7 @@
+use borrow.Author.Needs.{needs}
 use borrow.Author.Tests.{eq-eqb, ne-eqb}
 use Rattle.tables.specs.Rules.{hubRule}
 use Rattle.site.proofs.Keeping.{at-hub, off-hub}
-use native.Mathlib.Omega.{arith}
-use borrow.Author.Needs.{needs}
 use Rattle.site.proofs.rules.hub_rule.Statement.{statement}
 use Rattle.site.proofs.rules.hub_rule.Tie as tie
 

@@ -1,7 +1,6 @@
+use borrow.Author.Needs.{needs}
 use Rattle.tables.specs.Rules.{keeps}
 use Rattle.site.proofs.Keeping.{beside, stop, on}
-use native.Mathlib.Omega.{arith}
-use borrow.Author.Needs.{needs}
 use Rattle.site.proofs.rules.keeps.Statement.{statement}
 use Rattle.site.proofs.rules.keeps.Tie as tie
 
@@ -17,35 +16,54 @@ hub-rule-requires c κs = search needs
 
 returns-2 : tie.Need-returns-2
 unfolding keeps
-returns-2 c = on (c .before .before .before .depth-rule .ensures _ _) (c .before .before .if1 .left) (stop _ (c .before .hub-rule .ensures _ _ (c .before .before .before .before .before .before .before .before .pre .0 .top)) (c .if2 .taken))
+returns-2 c = let t = c .before .before .before .before .before .before .before .before .pre .0 .top in
+    on (c .before .before .before .depth-rule .ensures _ _) (c .before .before .if1 .left)
+    (stop _ (c .before .hub-rule .ensures _ _ t) (c .if2 .taken))
 
 mark-rule-requires : tie.Need-mark-rule-requires
 mark-rule-requires c κs = search needs
 
 returns-3 : tie.Need-returns-3
 unfolding keeps
-returns-3 c = on (c .before .before .before .before .before .depth-rule .ensures _ _) (c .before .before .before .before .if1 .left) (on (c .before .before .before .hub-rule .ensures _ _ (c .before .before .before .before .before .before .before .before .before .before .pre .0 .top)) (c .before .before .if2 .left) (stop _ (c .before .mark-rule .ensures _ _) (c .if3 .taken)))
+returns-3 c = let t = c .before .before .before .before .before .before .before .before .before .before .pre .0 .top in
+    on (c .before .before .before .before .before .depth-rule .ensures _ _) (c .before .before .before .before .if1 .left)
+    (on (c .before .before .before .hub-rule .ensures _ _ t) (c .before .before .if2 .left)
+    (stop _ (c .before .mark-rule .ensures _ _) (c .if3 .taken)))
 
 group-rule-requires : tie.Need-group-rule-requires
 group-rule-requires c κs = let p = c .before .before .before .before .before .before .before .before .before .before .pre in beside (p .0) (p .1) (p .0 .group-size)
 
 returns-4 : tie.Need-returns-4
 unfolding keeps
-returns-4 c = on (c .before .before .before .before .before .before .before .depth-rule .ensures _ _) (c .before .before .before .before .before .before .if1 .left) (on (c .before .before .before .before .before .hub-rule .ensures _ _ (c .before .before .before .before .before .before .before .before .before .before .before .before .pre .0 .top)) (c .before .before .before .before .if2 .left) (on (c .before .before .before .mark-rule .ensures _ _) (c .before .before .if3 .left) (stop _ (c .before .group-rule .ensures _ _) (c .if4 .taken))))
+returns-4 c = let t = c .before .before .before .before .before .before .before .before .before .before .before .before .pre .0 .top in
+    on (c .before .before .before .before .before .before .before .depth-rule .ensures _ _) (c .before .before .before .before .before .before .if1 .left)
+    (on (c .before .before .before .before .before .hub-rule .ensures _ _ t) (c .before .before .before .before .if2 .left)
+    (on (c .before .before .before .mark-rule .ensures _ _) (c .before .before .if3 .left)
+    (stop _ (c .before .group-rule .ensures _ _) (c .if4 .taken))))
 
 partner-rule-requires : tie.Need-partner-rule-requires
 partner-rule-requires c κs = search needs
 
 returns-5 : tie.Need-returns-5
 unfolding keeps
-returns-5 c = on (c .before .before .before .before .before .before .before .before .before .depth-rule .ensures _ _) (c .before .before .before .before .before .before .before .before .if1 .left) (on (c .before .before .before .before .before .before .before .hub-rule .ensures _ _ (c .before .before .before .before .before .before .before .before .before .before .before .before .before .before .pre .0 .top)) (c .before .before .before .before .before .before .if2 .left) (on (c .before .before .before .before .before .mark-rule .ensures _ _) (c .before .before .before .before .if3 .left) (on (c .before .before .before .group-rule .ensures _ _) (c .before .before .if4 .left) (stop _ (c .before .partner-rule .ensures _ _ (c .before .before .before .before .before .before .before .before .before .before .before .before .before .before .pre .0 .top)) (c .if5 .taken)))))
+returns-5 c = let t = c .before .before .before .before .before .before .before .before .before .before .before .before .before .before .pre .0 .top in
+    on (c .before .before .before .before .before .before .before .before .before .depth-rule .ensures _ _) (c .before .before .before .before .before .before .before .before .if1 .left)
+    (on (c .before .before .before .before .before .before .before .hub-rule .ensures _ _ t) (c .before .before .before .before .before .before .if2 .left)
+    (on (c .before .before .before .before .before .mark-rule .ensures _ _) (c .before .before .before .before .if3 .left)
+    (on (c .before .before .before .group-rule .ensures _ _) (c .before .before .if4 .left)
+    (stop _ (c .before .partner-rule .ensures _ _ t) (c .if5 .taken)))))
 
 carried-rule-requires : tie.Need-carried-rule-requires
 carried-rule-requires c κs = let p = c .before .before .before .before .before .before .before .before .before .before .before .before .before .before .pre in beside (p .0) (p .1) (p .0 .mark-size)
 
 returns-6 : tie.Need-returns-6
 unfolding keeps
-returns-6 c = on (c .before .before .before .before .before .before .before .before .before .before .depth-rule .ensures _ _) (c .before .before .before .before .before .before .before .before .before .if1 .left) (on (c .before .before .before .before .before .before .before .before .hub-rule .ensures _ _ (c .before .before .before .before .before .before .before .before .before .before .before .before .before .before .before .pre .0 .top)) (c .before .before .before .before .before .before .before .if2 .left) (on (c .before .before .before .before .before .before .mark-rule .ensures _ _) (c .before .before .before .before .before .if3 .left) (on (c .before .before .before .before .group-rule .ensures _ _) (c .before .before .before .if4 .left) (on (c .before .before .partner-rule .ensures _ _ (c .before .before .before .before .before .before .before .before .before .before .before .before .before .before .before .pre .0 .top)) (c .before .if5 .left) (c .carried-rule .ensures _ _)))))
+returns-6 c = let t = c .before .before .before .before .before .before .before .before .before .before .before .before .before .before .before .pre .0 .top in
+    on (c .before .before .before .before .before .before .before .before .before .before .depth-rule .ensures _ _) (c .before .before .before .before .before .before .before .before .before .if1 .left)
+    (on (c .before .before .before .before .before .before .before .before .hub-rule .ensures _ _ t) (c .before .before .before .before .before .before .before .if2 .left)
+    (on (c .before .before .before .before .before .before .mark-rule .ensures _ _) (c .before .before .before .before .before .if3 .left)
+    (on (c .before .before .before .before .group-rule .ensures _ _) (c .before .before .before .if4 .left)
+    (on (c .before .before .partner-rule .ensures _ _ t) (c .before .if5 .left) (c .carried-rule .ensures _ _)))))
 
 pub keeps-spec : {M : Type 1} → statement M
 keeps-spec =

@@ -1,8 +1,8 @@
-use Rattle.plain.specs.Table.{at}
-use borrow.Author.Tests.{le-leb, lt-leb}
-use Rattle.tables.specs.Rules.{markRule}
 use native.Mathlib.Omega.{arith}
 use borrow.Author.Needs.{needs}
+use borrow.Author.Tests.{le-leb, lt-leb}
+use Rattle.plain.specs.Table.{at}
+use Rattle.tables.specs.Rules.{markRule}
 use Rattle.site.proofs.rules.mark_rule.Statement.{statement}
 use Rattle.site.proofs.rules.mark_rule.Tie as tie
 

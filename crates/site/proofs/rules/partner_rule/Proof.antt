@@ -1,9 +1,8 @@
-use borrow.Author.Tests.{eq-eqb, ne-eqb}
 use lib.ListN.{List·getD-eq-default}
-use Rattle.tables.specs.Rules.{partnerRule}
-use Rattle.site.proofs.Keeping.{at-hub, off-hub}
-use native.Mathlib.Omega.{arith}
 use borrow.Author.Needs.{needs}
+use borrow.Author.Tests.{eq-eqb}
+use Rattle.tables.specs.Rules.{partnerRule}
+use Rattle.site.proofs.Keeping.{partner, at-hub, off-hub}
 use Rattle.site.proofs.rules.partner_rule.Statement.{statement}
 use Rattle.site.proofs.rules.partner_rule.Tie as tie
 
@@ -19,8 +18,9 @@ unfolding partnerRule
 returns-2 c = λ up d e. rw (off-hub up e (c .before .before .if1 .left), ← c .before .at .ensures, eq-eqb _ _ (c .if2 .taken))
 
 returns-3 : tie.Need-returns-3
-unfolding partnerRule
-returns-3 c = λ up d e. rw (off-hub up e (c .before .before .before .if1 .left), ← c .before .before .at .ensures, ne-eqb _ _ (c .before .if2 .left), List·getD-eq-default (c .before .before .before .before .before .before .args .mark .now) 0 (c .if3 .taken))
+returns-3 c = λ up d e.
+    partner up d _ _ e (c .before .before .before .if1 .left) (c .before .before .at .ensures) (c .before .if2 .left)
+    (rw (List·getD-eq-default (c .before .before .before .before .before .before .args .mark .now) 0 (c .if3 .taken)))
 
 shared-slice-read-ringed : tie.Need-shared-slice-read-ringed
 shared-slice-read-ringed c = search needs
@@ -35,12 +35,14 @@ ringed-requires-2 : tie.Need-ringed-requires-2
 ringed-requires-2 c κs = search needs
 
 returns-4 : tie.Need-returns-4
-unfolding partnerRule
-returns-4 c = λ up d e. rw (off-hub up e (c .before .before .before .before .before .before .before .before .if1 .left), ← c .before .before .before .before .before .before .before .at .ensures, ne-eqb _ _ (c .before .before .before .before .before .before .if2 .left), ← c .before .before .before .ringed .ensures, c .before .before .if4 .taken, ← c .ringed2 .ensures)
+returns-4 c = λ up d e.
+    partner up d _ _ e (c .before .before .before .before .before .before .before .before .if1 .left) (c .before .before .before .before .before .before .before .at .ensures) (c .before .before .before .before .before .before .if2 .left)
+    (rw (← c .before .before .before .ringed .ensures, c .before .before .if4 .taken, ← c .ringed2 .ensures))
 
 returns-5 : tie.Need-returns-5
-unfolding partnerRule
-returns-5 c = λ up d e. rw (off-hub up e (c .before .before .before .before .before .before .if1 .left), ← c .before .before .before .before .before .at .ensures, ne-eqb _ _ (c .before .before .before .before .if2 .left), ← c .before .ringed .ensures, c .if4 .left)
+returns-5 c = λ up d e.
+    partner up d _ _ e (c .before .before .before .before .before .before .if1 .left) (c .before .before .before .before .before .at .ensures) (c .before .before .before .before .if2 .left)
+    (rw (← c .before .ringed .ensures, c .if4 .left))
 
 pub partner-rule-spec : {M : Type 1} → statement M
 partner-rule-spec =

@@ -1,6 +1,5 @@
-use borrow.Author.Tests.{le-leb}
-use borrow.Author.Needs.{needs}
 use native.Mathlib.Omega.{arith}
+use borrow.Author.Tests.{le-leb}
 use Rattle.site.proofs.rules.ringed.Statement.{statement}
 use Rattle.site.proofs.rules.ringed.Tie as tie
 

@@ -1,0 +1,131 @@
+-- For callers: what an answer tells, so that none has to open a definition. Code 0 tells that every check passed, so the tree is sound and the
+-- tables are those of a history; any other code is that of the first check that refused, and what was lent is as it came. And an outcome that
+-- the promise allows is the only one.
+use mathlib.Core.Path.{_≡_, refl, sym, ap, _∙_, subst}
+use mathlib.Core.List.{List, []}
+use mathlib.Core.Logic.{_≢_}
+use Prim.Native.Nat.{ℕ}
+use lib.ListN.{length}
+use borrow.Author.Tests.{eqb-true}
+use Rattle.tables.specs.Verdict.{Verdict, Sound, Refused, checks}
+use Rattle.tables.specs.Tables.{Tables, fresh, tableSizes}
+use Rattle.tables.specs.Batch.{pairs, batchVerdict, after, rise}
+use Rattle.tables.specs.History.{History, Lived, leaves, tables}
+use Rattle.tables.specs.Report.{machineBytes, linkBytes}
+use Rattle.tables.specs.Outcome.{Answer, answer, Bytes, named, startVerdict, startOf, addVerdict, addOf, reportVerdict, reportOf}
+use Rattle.tables.specs.Demand2.{Reported}
+use Rattle.tables.proofs.Verdicts.{all-sound, sound-all, unless-sound}
+use Rattle.tables.proofs.Codes.{Numbered, start-numbered, add-numbered, report-numbered}
+use Rattle.graph.proofs.Members.{empty}
+use Rattle.tables.proofs.Demand1.{rules-exact}
+use Rattle.tables.proofs.Demand2.{demand2}
+use Rattle.site.specs.Lent.{outcome}
+
+-- two outcomes that a promise allows coincide
+module _ {A : Type 0} {c v c′ v′ : ℕ} {l l′ : A} (a : Answer A) where
+  pub one-outcome : outcome c v l ≡ a → outcome c′ v′ l′ ≡ a → (c ≡ c′) × (v ≡ v′) × (l ≡ l′)
+  one-outcome p q = let e = p ∙ sym q in (ap (λ r. r .code) e, ap (λ r. r .value) e, ap (λ r. r .lent) e)
+
+pub start-one : {c v c′ v′ : ℕ} {l l′ : Tables} (up : List ℕ) (t : Tables) → outcome c v l ≡ startOf up t → outcome c′ v′ l′ ≡ startOf up t
+    → (c ≡ c′) × (v ≡ v′) × (l ≡ l′)
+start-one up t = one-outcome (startOf up t)
+
+pub add-one : {c v c′ v′ : ℕ} {l l′ : Tables} (up batch : List ℕ) (t : Tables) → outcome c v l ≡ addOf up batch t → outcome c′ v′ l′ ≡ addOf up batch t
+    → (c ≡ c′) × (v ≡ v′) × (l ≡ l′)
+add-one up batch t = one-outcome (addOf up batch t)
+
+pub report-one : {c v c′ v′ : ℕ} {l l′ : Bytes} (up : List ℕ) (t : Tables) (o : Bytes) → outcome c v l ≡ reportOf up t o → outcome c′ v′ l′ ≡ reportOf up t o
+    → (c ≡ c′) × (v ≡ v′) × (l ≡ l′)
+report-one up t o = one-outcome (reportOf up t o)
+
+-- what the code of an answer tells of the checks
+module _ {A : Type 0} (v : Verdict) (came : A) (value : ℕ) (done : A) where
+  answer-done : {x : ℕ} {l : A} → Numbered v → outcome 0 x l ≡ answer v came value done → (v ≡ Sound) × (x ≡ value) × (l ≡ done)
+  unfolding answer
+  answer-done {x} {l} n e = go v refl e
+    where
+      go : (u : Verdict) → v ≡ u → outcome 0 x l ≡ answer u came value done → (v ≡ Sound) × (x ≡ value) × (l ≡ done)
+      go Sound q e = (q, ap (λ r. r .value) e, ap (λ r. r .lent) e)
+      go (Refused c p) q e = absurd (n c p q (sym (ap (λ r. r .code) e)))
+
+  answer-refused : {c x : ℕ} {l : A} → c ≢ 0 → outcome c x l ≡ answer v came value done → (v ≡ Refused c x) × (l ≡ came)
+  unfolding answer
+  answer-refused {c} {x} {l} o e = go v refl e
+    where
+      go : (u : Verdict) → v ≡ u → outcome c x l ≡ answer u came value done → (v ≡ Refused c x) × (l ≡ came)
+      go Sound q e = absurd (o (ap (λ r. r .code) e))
+      go (Refused d p) q e = (q ∙ (λ i. Refused (ap (λ r. r .code) (sym e) i) (ap (λ r. r .value) (sym e) i)), ap (λ r. r .lent) e)
+
+-- Start done: a site with no batches
+pub record Started (up : List ℕ) (t t′ : Tables) (value : ℕ) : Type 0 where
+  pub lived : Lived up []
+  pub sizes : checks (tableSizes up t) ≡ Sound
+  pub counted : value ≡ length up
+  pub fresh-tables : t′ ≡ tables up []
+
+pub start-done : {value : ℕ} {t′ : Tables} (up : List ℕ) (t : Tables) → outcome 0 value t′ ≡ startOf up t → Started up t t′ value
+unfolding startOf startVerdict leaves
+start-done up t e =
+    let (s, v, l) = answer-done (startVerdict up t) t (length up) (fresh up) (start-numbered up t) e in
+    let a = all-sound _ s in
+    record { lived = record { size = a .0; tree = a .1 .1 .0; batches = λ b m. absurd (empty m) }; sizes = a .1 .0; counted = v; fresh-tables = l }
+
+-- Add done: from the tables of a history to those of the history with one batch more
+pub record Added (up batch : List ℕ) (t t′ : Tables) (value : ℕ) : Type 0 where
+  pub history : History
+  pub lived : Lived up history
+  pub before : tables up history ≡ t
+  pub accepted : batchVerdict (length up) batch ≡ Sound
+  pub after-batch : t′ ≡ after up (pairs batch) t
+  pub rose : value ≡ rise t t′
+
+pub add-done : {value : ℕ} {t′ : Tables} (up batch : List ℕ) (t : Tables) → outcome 0 value t′ ≡ addOf up batch t → Added up batch t t′ value
+unfolding addOf addVerdict
+add-done up batch t e =
+    let u = after up (pairs batch) t in
+    let (s, v, l) = answer-done (addVerdict up batch t) t (rise t u) u (add-numbered up batch t) e in
+    let a = all-sound _ s in
+    let (h, k, q) = rules-exact up t (a .1 .1 .0) (a .1 .0) .0 (a .1 .1 .1 .0) in
+    record {
+      history = h;
+      lived = record { size = a .0; tree = a .1 .1 .0; batches = k };
+      before = q;
+      accepted = a .1 .1 .1 .1 .0;
+      after-batch = l;
+      rose = v ∙ ap (rise t) (sym l);
+    }
+
+-- Report done: it names the chokes of a history
+pub record Reporting (up : List ℕ) (t : Tables) (o : Bytes) (value : ℕ) : Type 0 where
+  pub history : History
+  pub lived : Lived up history
+  pub before : tables up history ≡ t
+  pub counted : value ≡ named (o .machines)
+  pub reported : Reported up history (outcome 0 value o)
+
+pub report-done : {value : ℕ} {o′ : Bytes} (up : List ℕ) (t : Tables) (o : Bytes) → outcome 0 value o′ ≡ reportOf up t o → Reporting up t o′ value
+unfolding reportOf reportVerdict tableSizes
+report-done {value} {o′} up t o e =
+    let filled : Bytes = record { machines = machineBytes up t; links = linkBytes up t } in
+    let (s, v, l) = answer-done (reportVerdict up t o) o (named (machineBytes up t)) filled (report-numbered up t o) e in
+    let a = all-sound _ s in
+    let b = all-sound _ (a .1 .0) in
+    let (h, k, q) = rules-exact up t (a .1 .1 .0) (sound-all (tableSizes up t) (b .0, (b .1 .0, (b .1 .1 .0, tt)))) .0 (a .1 .1 .1 .0) in
+    let lives : Lived up h = record { size = a .0; tree = a .1 .1 .0; batches = k } in
+    let one = eqb-true _ _ (unless-sound _ _ _ (b .1 .1 .1 .0)) in
+    let two = eqb-true _ _ (unless-sound _ _ _ (b .1 .1 .1 .1 .0)) in
+    let r : Reported up h (reportOf up t o) = subst (λ u. Reported up h (reportOf up u o)) q (demand2 .reports up h lives o one two) in
+    record { history = h; lived = lives; before = q; counted = v ∙ ap (λ x. named (x .machines)) (sym l); reported = rw e r }
+
+-- a refusal: the first check that refused, and what was lent as it came
+pub start-refused : {c value : ℕ} {t′ : Tables} (up : List ℕ) (t : Tables) → c ≢ 0 → outcome c value t′ ≡ startOf up t → (startVerdict up t ≡ Refused c value) × (t′ ≡ t)
+unfolding startOf
+start-refused up t = answer-refused (startVerdict up t) t (length up) (fresh up)
+
+pub add-refused : {c value : ℕ} {t′ : Tables} (up batch : List ℕ) (t : Tables) → c ≢ 0 → outcome c value t′ ≡ addOf up batch t → (addVerdict up batch t ≡ Refused c value) × (t′ ≡ t)
+unfolding addOf
+add-refused up batch t = let u = after up (pairs batch) t in answer-refused (addVerdict up batch t) t (rise t u) u
+
+pub report-refused : {c value : ℕ} {o′ : Bytes} (up : List ℕ) (t : Tables) (o : Bytes) → c ≢ 0 → outcome c value o′ ≡ reportOf up t o → (reportVerdict up t o ≡ Refused c value) × (o′ ≡ o)
+unfolding reportOf
+report-refused up t o = answer-refused (reportVerdict up t o) o (named (machineBytes up t)) (record { machines = machineBytes up t; links = linkBytes up t })
