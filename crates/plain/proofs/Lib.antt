@@ -6,3 +6,5 @@ pub mod Pigeon
 pub mod Decide
 pub mod Fill
 pub mod Loops
+pub mod Mapping
+pub mod Total

@@ -1,7 +1,8 @@
--- For loops that count up: what a search and a count say with one number more at the end.
+-- For loops that count up: what a search and a count say with one number more at the end, and what such a loop keeps.
 use mathlib.Core.Path.{_≡_, refl, sym, ap, _∙_}
 use mathlib.Core.Bool.{Bool, true, false, cond, _||_, or-assoc, or-true, or-false}
-use Prim.Native.Nat.{ℕ, zero, suc, _+_, _<_}
+use Prim.Native.Nat.{ℕ, zero, suc, _+_, _<_, _≤_}
+use native.Mathlib.Numerals.{add-one}
 use native.Mathlib.Omega.{arith}
 use borrow.Author.Count.{below-more}
 use Rattle.plain.specs.Search.{some, count}
@@ -34,3 +35,33 @@ pub count-more : (n : ℕ) (p : ℕ → Bool) → count (suc n) p ≡ count n p 
 unfolding count
 count-more zero p = omega arith
 count-more (suc n) p = omega (arith, count-more n (λ k. p (suc k)))
+
+-- the test of number i answers r
+pub found : (n : ℕ) (p : ℕ → Bool) (i : ℕ) {r : Bool} → i < n → r ≡ p i → r ≡ true → true ≡ some n p
+found n p i h e f = sym (some-at n p i h (sym e ∙ f))
+
+pub missed : (p : ℕ → Bool) (i : ℕ) {r : Bool} → NoneBelow p i → r ≡ p i → r ≡ false → NoneBelow p (i + 1)
+missed p i none e f = none-more p i none (sym e ∙ f)
+
+pub unfound : (n : ℕ) (p : ℕ → Bool) (i : ℕ) → NoneBelow p i → n ≤ i → false ≡ some n p
+unfound n p i none h = sym (some-none n p (λ k l. none k (omega arith)))
+
+-- k of the numbers below i pass
+pub record Counted (n : ℕ) (p : ℕ → Bool) (i k : ℕ) : Type 0 where
+  pub low : i ≤ n
+  pub few : k ≤ i
+  pub is : k ≡ count i p
+
+pub counted-none : (n : ℕ) (p : ℕ → Bool) → Counted n p 0 0
+unfolding count
+counted-none n p = record { low = omega arith; few = omega arith; is = refl }
+
+pub counted-more : {n : ℕ} {p : ℕ → Bool} {i k r : ℕ} {b : Bool} → Counted n p i k → i < n → b ≡ p i → r ≡ cond b 1 0 → Counted n p (i + 1) (k + r)
+counted-more {n} {p} {i} {k} {r} {b} c h e f = record { low = omega arith; few = go b f; is = rw (f, e, c .is, add-one i) (sym (count-more i p)) }
+  where
+    go : (b : Bool) → r ≡ cond b 1 0 → k + r ≤ i + 1
+    go true q = omega (arith, c .few)
+    go false q = omega (arith, c .few)
+
+pub counted-all : {n : ℕ} {p : ℕ → Bool} {i k : ℕ} → Counted n p i k → n ≤ i → k ≡ count n p
+counted-all {p = p} c h = c .is ∙ ap (λ j. count j p) (omega (arith, c .low))

@@ -79,3 +79,13 @@ says-some (suc n) {p} {P} s =
 
 pub says-if : {a b : Bool} {P Q : Type 0} → Says a P → Says b Q → Says (not a || b) (P → Q)
 says-if s t = says-map (λ f p. f (λ q. q p)) (λ f q. elim (decided s) [ yes p ↦ f p | no o ↦ absurd (q o) ]) (says-unless (says-not s) t)
+
+-- two tests of one statement are one
+pub says-same : {a b : Bool} {P : Type 0} → Says a P → Says b P → a ≡ b
+says-same {a} {b} s t = go a b refl refl
+  where
+    go : (c d : Bool) → a ≡ c → b ≡ d → c ≡ d
+    go true true e f = refl
+    go false false e f = refl
+    go true false e f = sym (sym f ∙ t .takes (s .gives e))
+    go false true e f = sym e ∙ s .takes (t .gives f)

@@ -1,6 +1,6 @@
 -- What a link asks of the marks is what its two climbs ask: the ring without w is the line from a up to w and that from b up to w, w left out.
 -- All by what is under what; and the machine that a climb came by last is the child of w on that line.
-use mathlib.Core.Path.{_≡_, refl, sym, _∙_}
+use mathlib.Core.Path.{_≡_}
 use mathlib.Core.Bool.{Bool, true, false, cond, _||_, _&&_, not}
 use mathlib.Core.List.{List}
 use mathlib.Core.Logic.{_≢_, _⊎_, inl, inr, ⊎-elim}
@@ -8,7 +8,7 @@ use Prim.Native.Nat.{ℕ, _<_, max}
 use native.Mathlib.Omega.{arith}
 use lib.ListN.{length}
 use Rattle.plain.specs.Table.{at}
-use Rattle.plain.proofs.Says.{Says, says-map, says-not, says-and, says-or, refutes}
+use Rattle.plain.proofs.Says.{says-same, Says, says-map, says-not, says-and, says-or, refutes}
 use Rattle.graph.specs.Walk.{stay, step}
 use Rattle.graph.proofs.Walks.{join, one-step}
 use Rattle.rings.specs.Tree.{Uplink, Under}
@@ -20,16 +20,6 @@ use Rattle.tables.proofs.Sound.{rooted}
 use Rattle.tables.proofs.Lines.{meets, says-over, below-is}
 use Rattle.tables.proofs.Dues.{On, says-on}
 use Rattle.site.specs.RingStep.{markFor, want}
-
--- two tests of one statement are one
-says-same : {a b : Bool} {P : Type 0} → Says a P → Says b P → a ≡ b
-says-same {a} {b} s t = go a b refl refl
-  where
-    go : (c d : Bool) → a ≡ c → b ≡ d → c ≡ d
-    go true true e f = refl
-    go false false e f = refl
-    go true false e f = sym (sym f ∙ t .takes (s .gives e))
-    go false true e f = sym e ∙ s .takes (t .gives f)
 
 max-or : (p q : Bool) (d : ℕ) → cond (p || q) d 0 ≡ max (cond p d 0) (cond q d 0)
 max-or true true d = omega arith

@@ -11,9 +11,9 @@ use lib.Dec.{eqb}
 use borrow.Author.Tests.{eqb-true, eq-eqb}
 use Rattle.plain.specs.Table.{at}
 use Rattle.plain.proofs.Least.{Least, least-is, least-has}
-use Rattle.tables.specs.Tree.{climb, hub, depthOf}
+use Rattle.tables.specs.Tree.{Inside, climb, hub, depthOf}
 use Rattle.tables.proofs.Climb.{reaches-soon}
-use Rattle.site.specs.TreeCheck.{Depth, Inside}
+use Rattle.site.specs.TreeCheck.{Depth}
 
 -- d is the least number of steps, below n, from v to the hub
 abbrev Steps : List ℕ → ℕ → ℕ → Type 0

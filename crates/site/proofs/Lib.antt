@@ -1,4 +1,3 @@
-pub mod Filling
 pub mod HubSearch
 pub mod Depths
 pub mod DepthTable
@@ -12,8 +11,6 @@ pub mod Callers
 pub mod Meeting
 pub mod Arms
 pub mod Raising
-pub mod Renaming
 pub mod Linking
 pub mod Applying
-pub mod Searching
 pub mod Reporting

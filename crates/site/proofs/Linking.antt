@@ -21,6 +21,15 @@ use Rattle.tables.proofs.Sound.{rooted}
 use Rattle.tables.proofs.Lines.{meets}
 use Rattle.site.specs.RingStep.{Climbs, Top, want, Raises, joinedBelow, Linkable, Links}
 use Rattle.site.proofs.Arms.{due-arms, below-one}
+use mathlib.Core.List.{map}
+use Prim.Native.Nat.{max, min}
+use Rattle.tables.specs.Link.{renamed, joined}
+
+-- the groups of c and d are made one by calling the greater name the lesser
+pub joined-by : (group : List ℕ) (c d : ℕ) {group′ : List ℕ} {hi lo : ℕ} → hi ≡ max (at group c) (at group d) → lo ≡ min (at group c) (at group d)
+    → group′ ≡ map (renamed hi lo) group → group′ ≡ joined c d group
+unfolding joined
+joined-by group c d h l e = e ∙ (rw (h, l))
 
 module _ {up : List ℕ} (s : SoundTree up) {a w top : ℕ} (h : a < length up) (u : Under (treeOf up) w a) (t : Top up a w w top) where
   -- a climb came by no machine just where a is w, and else last by the child of w

@@ -1,15 +1,16 @@
 -- A climb from a to w that raises marks. At v, the marks so far with what the climb from v still asks are the old marks with what the whole
 -- climb asks; a step settles v alone. Sums go by one entry at a time, and each step, of which there are at most n, adds at most 2.
 use mathlib.Core.Path.{_≡_, refl, sym, ap, _∙_}
-use mathlib.Core.List.{List, [], _∷_}
+use mathlib.Core.List.{List}
 use mathlib.Core.Logic.{_≢_, inl, inr, dite}
-use Prim.Native.Nat.{ℕ, zero, suc, _+_, _*_, _-_, _<_, _≤_, max}
+use Prim.Native.Nat.{ℕ, _+_, _*_, _-_, _<_, _≤_, max}
 use native.Mathlib.Decide.{ℕ-discrete}
 use native.Mathlib.Nat.{max-zero}
 use native.Mathlib.Omega.{arith}
 use lib.ListN.{length, set, length-set}
 use lib.Seq.{getD-set-same, getD-set-other}
 use lib.Dec.{eqb}
+use Rattle.plain.proofs.Total.{total-set}
 use Rattle.plain.specs.Table.{at, total}
 use Rattle.plain.proofs.Says.{by-cases}
 use Rattle.graph.specs.Walk.{stay}
@@ -20,13 +21,6 @@ use Rattle.tables.specs.Tree.{depthOf, treeOf}
 use Rattle.tables.proofs.Sound.{soon, rooted}
 use Rattle.site.specs.RingStep.{Climbs, markFor, want, Top, Raises}
 use Rattle.site.proofs.Arms.{want-here, want-above, want-other, want-none}
-
--- one entry changed: the sum changes by what it changes
-total-set : (l : List ℕ) (i v : ℕ) → i < length l → total (set l i v) + at l i ≡ total l + v
-unfolding total
-total-set [] i v h = absurd (omega arith)
-total-set (x ∷ l) zero v h = omega arith
-total-set (x ∷ l) (suc i) v h = omega (arith, total-set l i v (omega arith))
 
 mark-two : (p w m : ℕ) → max m (markFor p w) ≤ m + 2
 mark-two p w m = by-cases (eqb p w) (λ e. rw e (omega arith)) (λ e. rw e (omega arith))

@@ -9,13 +9,13 @@ use borrow.Author.Tests.{le-leb, lt-leb, leb-false, ltb-true}
 use Rattle.plain.specs.Table.{at}
 use Rattle.plain.proofs.Loops.{NoneBelow, none-more}
 use Rattle.tables.specs.Verdict.{Verdict, Sound, Refused, checks}
-use Rattle.tables.specs.Tree.{hub, treeVerdict}
+use Rattle.tables.specs.Tree.{Inside, hub, treeVerdict}
 use Rattle.tables.proofs.Verdicts.{passes, refuses, checks-one, checks-append, refuse-at, refuse-none, none-refused, all-sound, unless-sound, not-both}
 use Rattle.site.specs.Check.{verdictOf}
 use Rattle.site.specs.declared.Check.{Check}
 use Rattle.site.specs.declared.Check.the-variants as check
 use Rattle.site.specs.declared.Fault.{Fault}
-use Rattle.site.specs.TreeCheck.{entriesVerdict, hubsVerdict, reachVerdict, Inside, Ready, Reached, Room, TreeChecked}
+use Rattle.site.specs.TreeCheck.{entriesVerdict, hubsVerdict, reachVerdict, Ready, Reached, Room, TreeChecked}
 
 -- the entries below v are machines
 pub record Entered (up : List ℕ) (v : ℕ) : Type 0 where

@@ -8,7 +8,7 @@ use lib.ListN.{length}
 use lib.Dec.{leb, ltb, eqb}
 use Rattle.plain.specs.Table.{at, tabulate}
 use Rattle.tables.specs.Verdict.{Verdict, Sound, checks, unless, refuseLeast}
-use Rattle.tables.specs.Tree.{mostMachines, climb, hub, depthOf, treeVerdict}
+use Rattle.tables.specs.Tree.{mostMachines, climb, hub, Inside, depthOf, treeVerdict}
 use Rattle.site.specs.Check.{verdictOf}
 use Rattle.site.specs.declared.Check.{Check}
 
@@ -55,10 +55,6 @@ pub record Held (up known : List ℕ) : Type 0 where
   pub size : length known ≡ length up
   pub depth : (x : ℕ) → x < length up → Known known x → Depth up x (at known x)
   pub top : Known known (hub up)
-
--- every entry is a machine
-abbrev pub Inside : List ℕ → Type 0
-Inside up = (v : ℕ) → v < length up → at up v < length up
 
 -- what a climb from v asks
 pub record Climbing (up known : List ℕ) (v : ℕ) : Type 0 where

@@ -1,5 +1,5 @@
 -- What a site file means, record by record, and what the program prints for it.
-use mathlib.Core.Bool.{Bool, true, false, cond, _&&_, _||_, not}
+use mathlib.Core.Bool.{Bool, cond, _&&_, not}
 use mathlib.Core.List.{List, [], _∷_, _++_}
 use Prim.Native.Nat.{ℕ, zero, suc, _+_, _*_}
 use lib.ListN.{length}
@@ -10,7 +10,7 @@ use Rattle.tables.specs.Tree.{sizeVerdict, treeVerdict}
 use Rattle.tables.specs.Tables.{Tables, fresh}
 use Rattle.tables.specs.Batch.{mostLinks}
 use Rattle.tables.specs.Report.{machineBytes, linkBytes}
-use Rattle.tables.specs.Outcome.{Answer, Bytes, addVerdict, addOf, reportVerdict}
+use Rattle.tables.specs.Outcome.{Bytes, addVerdict, addOf, reportVerdict}
 use Rattle.sitefile.specs.Record.{known, bodyLength, bodyOf, word}
 use Rattle.sitefile.specs.Text.{reportText, refusalText}
 

@@ -5,7 +5,6 @@ use Prim.Native.Nat.{ℕ, _*_}
 use lib.ListN.{length, take, drop}
 use lib.Dec.{leb, eqb}
 use Rattle.tables.specs.Tree.{mostMachines}
-use Rattle.tables.specs.Tables.{Tables}
 use Rattle.tables.specs.Batch.{mostLinks}
 use Rattle.sitefile.specs.File as file
 use Rattle.sitefile.specs.declared.Reader.{Reader}

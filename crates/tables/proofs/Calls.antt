@@ -8,7 +8,7 @@ use borrow.Author.Tests.{eq-eqb}
 use Rattle.plain.specs.Table.{total}
 use Rattle.plain.proofs.Says.{says-lt, says-le, says-eq, says-and}
 use Rattle.plain.proofs.Tabulate.{length-tabulate}
-use Rattle.tables.specs.Verdict.{Verdict, Sound, Refused, checks}
+use Rattle.tables.specs.Verdict.{Sound, checks}
 use Rattle.tables.specs.Tree.{depthOf, sizeVerdict}
 use Rattle.tables.specs.Tables.{Tables, fresh, tableSizes}
 use Rattle.tables.specs.Batch.{pairs, lengthVerdict, batchVerdict, after, rise}

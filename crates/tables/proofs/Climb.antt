@@ -13,16 +13,12 @@ use Rattle.plain.specs.Table.{at}
 use Rattle.plain.proofs.Says.{by-cases, clash}
 use Rattle.plain.proofs.Least.{Least, least-has}
 use Rattle.plain.proofs.Pigeon.{pigeon}
-use Rattle.tables.specs.Tree.{climb, hub, Reaches, depthOf}
+use Rattle.tables.specs.Tree.{climb, hub, Inside, Reaches, depthOf}
 
 pub climb-add : (up : List ℕ) (k m v : ℕ) → climb up (k + m) v ≡ climb up m (climb up k v)
 unfolding climb
 climb-add up zero m v = rw zero-add
 climb-add up (suc k) m v = rw suc-add (climb-add up k m (at up v))
-
--- every entry is a machine
-abbrev pub Inside : List ℕ → Type 0
-Inside up = (v : ℕ) → v < length up → at up v < length up
 
 pub climb-in : (up : List ℕ) → Inside up → (k v : ℕ) → v < length up → climb up k v < length up
 unfolding climb

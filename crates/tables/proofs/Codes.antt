@@ -1,20 +1,20 @@
 -- Every refusal has a number of its own: no code of a check is 0, so an answer's code tells whether it was refused.
-use mathlib.Core.Path.{_≡_, refl}
-use mathlib.Core.Bool.{Bool, true, false, _&&_}
-use mathlib.Core.List.{List, [], _∷_, _++_}
+use mathlib.Core.Path.{_≡_}
+use mathlib.Core.Bool.{Bool, _&&_}
+use mathlib.Core.List.{List, [], _∷_}
 use mathlib.Core.Logic.{_≢_, ⊎-elim}
-use Prim.Native.Nat.{ℕ, suc}
+use Prim.Native.Nat.{ℕ}
 use native.Mathlib.Omega.{arith}
 use lib.ListN.{length}
 use lib.Dec.{leb, ltb, eqb}
 use Rattle.plain.specs.Table.{at}
-use Rattle.tables.specs.Verdict.{Verdict, Sound, Refused, checks, unless, refuseLeast}
+use Rattle.tables.specs.Verdict.{Verdict, Refused, checks, unless, refuseLeast}
 use Rattle.tables.specs.Tree.{mostMachines, hub, depthOf, sizeVerdict, treeVerdict}
 use Rattle.tables.specs.Tables.{Tables, sized, tableSizes}
 use Rattle.tables.specs.Batch.{batchVerdict}
 use Rattle.tables.specs.Rules.{breaks, rulesVerdict}
 use Rattle.tables.specs.Outcome.{Bytes, startVerdict, addVerdict, reportVerdict}
-use Rattle.tables.proofs.Verdicts.{first-refused, no-check, not-both, refused-at}
+use Rattle.tables.proofs.Verdicts.{first-refused, no-check, refused-at}
 use Rattle.tables.proofs.Demand1.{unless-code, batch-code}
 
 -- a refusal of this check has a code that is not 0

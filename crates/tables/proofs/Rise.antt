@@ -1,11 +1,12 @@
 -- Marks after a run of links: each is the greatest of what it was and what the links ask. So none falls, and what they rose by, added up,
 -- is the difference of their totals.
-use mathlib.Core.Path.{_≡_, refl}
+use mathlib.Core.Path.{_≡_}
 use mathlib.Core.List.{List, [], _∷_}
-use Prim.Native.Nat.{ℕ, suc, _+_, _-_, _<_, _≤_, max}
+use Prim.Native.Nat.{ℕ, _+_, _<_, max}
 use native.Mathlib.Omega.{arith}
 use lib.ListN.{length}
-use Rattle.plain.specs.Table.{at, tabulate, total}
+use Rattle.plain.specs.Table.{at, total}
+use Rattle.plain.proofs.Total.{total-rise}
 use Rattle.plain.proofs.Tabulate.{length-tabulate, at-tabulate}
 use Rattle.graph.specs.Cable.{Cables}
 use Rattle.tables.specs.Tables.{Tables}
@@ -24,15 +25,6 @@ unfolding after linked raised
 after-length up [] t e = e
 after-length up (p ∷ l) t e =
     after-length up l (linked up (p .0) (p .1) t) (length-tabulate (length up) (λ x. max (at (t .mark) x) (due up (p .0) (p .1) x)))
-
-total-rise : (l k : List ℕ) → length k ≡ length l → ((x : ℕ) → x < length l → at l x ≤ at k x)
-    → total (tabulate (length l) (λ x. at k x - at l x)) + total l ≡ total k
-unfolding total tabulate
-total-rise [] [] e f = refl
-total-rise [] (b ∷ k) e f = absurd (omega arith)
-total-rise (a ∷ l) [] e f = absurd (omega arith)
-total-rise (a ∷ l) (b ∷ k) e f =
-    omega (arith, f 0 (omega arith), total-rise l k (omega arith) (λ x h. f (suc x) (omega arith)))
 
 pub rise-is : (up : List ℕ) (l : Cables) (t : Tables) → length (t .mark) ≡ length up
     → rise t (after up l t) + total (t .mark) ≡ total (after up l t .mark)

@@ -8,7 +8,7 @@ use Prim.Native.Nat.{ℕ, _<_}
 use lib.ListN.{length}
 use Rattle.plain.specs.Table.{at}
 use Rattle.tables.specs.Verdict.{Sound, Refused, checks}
-use Rattle.tables.specs.Tree.{hub, Reaches, sizeVerdict, treeVerdict}
+use Rattle.tables.specs.Tree.{hub, Inside, Reaches, sizeVerdict, treeVerdict}
 use Rattle.tables.specs.Tables.{Tables, tableSizes}
 use Rattle.tables.specs.History.{Left}
 use Rattle.tables.specs.Rules.{breaks, rulesVerdict}
@@ -16,7 +16,7 @@ use Rattle.tables.specs.Outcome.{Bytes, startOf, addOf, reportOf}
 
 -- a sound tree: every entry a machine, one hub, and every machine reaches it
 pub record SoundTree (up : List ℕ) : Type 0 where
-  pub inside : (v : ℕ) → v < length up → at up v < length up
+  pub inside : Inside up
   pub hub-in : hub up < length up
   pub hub-self : at up (hub up) ≡ hub up
   pub only : (v : ℕ) → v < length up → at up v ≡ v → v ≡ hub up

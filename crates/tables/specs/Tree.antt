@@ -2,7 +2,7 @@
 use mathlib.Core.Path.{_≡_}
 use mathlib.Core.Bool.{_&&_}
 use mathlib.Core.List.{List, [], _∷_}
-use Prim.Native.Nat.{ℕ, zero, suc}
+use Prim.Native.Nat.{ℕ, zero, suc, _<_}
 use lib.ListN.{length}
 use lib.Dec.{leb, ltb, eqb}
 use Rattle.plain.specs.Search.{least}
@@ -22,6 +22,10 @@ climb up (suc k) v = climb up k (at up v)
 -- the machine that names itself: the least, if there are several; n, if there is none
 unfoldable pub hub : List ℕ → ℕ
 hub up = least (length up) (λ v. eqb (at up v) v)
+
+-- every entry is a machine
+abbrev pub Inside : List ℕ → Type 0
+Inside up = (v : ℕ) → v < length up → at up v < length up
 
 -- v reaches the hub: some number of steps leads there
 abbrev pub Reaches : List ℕ → ℕ → Type 0

@@ -4,7 +4,7 @@ use Prim.Native.Nat.{_-_}
 use native.Mathlib.Omega.{arith}
 use lib.ListN.{length}
 use borrow.Author.Needs.{needs}
-use Rattle.site.proofs.Filling.{Filling, fill-start, fill-next, fill-end, all-alike}
+use Rattle.plain.proofs.Fill.{Filling, fill-start, fill-next, fill-end, all-alike}
 use Rattle.site.proofs.fill.clear.Statement.{statement}
 use Rattle.site.proofs.fill.clear.Tie as tie
 

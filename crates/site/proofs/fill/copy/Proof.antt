@@ -5,7 +5,7 @@ use native.Mathlib.Omega.{arith}
 use lib.ListN.{length}
 use borrow.Author.Needs.{needs}
 use Rattle.plain.specs.Table.{at, tabulate}
-use Rattle.site.proofs.Filling.{Filling, fill-start, fill-next, fill-end, by-entries}
+use Rattle.plain.proofs.Fill.{Filling, fill-start, fill-next, fill-end, by-entries}
 use Rattle.site.proofs.fill.copy.Statement.{statement}
 use Rattle.site.proofs.fill.copy.Tie as tie
 

@@ -4,7 +4,7 @@ use Prim.Native.Nat.{_-_}
 use native.Mathlib.Omega.{arith}
 use lib.ListN.{length}
 use borrow.Author.Needs.{needs}
-use Rattle.site.proofs.Filling.{Filling, fill-start, fill-next, fill-end}
+use Rattle.plain.proofs.Fill.{Filling, fill-start, fill-next, fill-end}
 use Rattle.site.proofs.fill.number.Statement.{statement}
 use Rattle.site.proofs.fill.number.Tie as tie
 

@@ -3,7 +3,7 @@ use native.Mathlib.Omega.{arith}
 use lib.ListN.{length}
 use borrow.Author.Needs.{needs}
 use Rattle.tables.specs.Report.{ends}
-use Rattle.site.proofs.Searching.{Counted, counted-none, counted-more, counted-all}
+use Rattle.plain.proofs.Loops.{Counted, counted-none, counted-more, counted-all}
 use Rattle.site.proofs.report.count_ends.Statement.{statement}
 use Rattle.site.proofs.report.count_ends.Tie as tie
 

@@ -4,7 +4,7 @@ use lib.ListN.{length}
 use borrow.Author.Needs.{needs}
 use Rattle.plain.proofs.Loops.{NoneBelow}
 use Rattle.site.specs.ReportFill.{carriedMember}
-use Rattle.site.proofs.Searching.{found, missed, unfound}
+use Rattle.plain.proofs.Loops.{found, missed, unfound}
 use Rattle.site.proofs.report.group_carried.Statement.{statement}
 use Rattle.site.proofs.report.group_carried.Tie as tie
 

@@ -6,7 +6,7 @@ use Rattle.plain.proofs.Loops.{NoneBelow}
 use Rattle.plain.specs.Search.{some}
 use Rattle.tables.specs.Report.{split}
 use Rattle.site.specs.ReportFill.{inTwo}
-use Rattle.site.proofs.Searching.{found, missed, unfound}
+use Rattle.plain.proofs.Loops.{found, missed, unfound}
 use Rattle.site.proofs.report.split.Statement.{statement}
 use Rattle.site.proofs.report.split.Tie as tie
 

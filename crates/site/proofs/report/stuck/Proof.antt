@@ -7,7 +7,7 @@ use Rattle.plain.proofs.Loops.{NoneBelow}
 use Rattle.tables.specs.Report.{stuck}
 use Rattle.site.specs.ReportFill.{stuckChild}
 use Rattle.site.specs.Lent.{tablesOf}
-use Rattle.site.proofs.Searching.{found, missed, unfound}
+use Rattle.plain.proofs.Loops.{found, missed, unfound}
 use Rattle.site.proofs.report.stuck.Statement.{statement}
 use Rattle.site.proofs.report.stuck.Tie as tie
 

@@ -1,5 +1,5 @@
 -- `ring::join` meets its contract: the greater name gives way to the lesser.
-use Rattle.site.proofs.Renaming.{joined-by}
+use Rattle.site.proofs.Linking.{joined-by}
 use borrow.Author.Needs.{needs}
 use Rattle.site.proofs.ring.join.Statement.{statement}
 use Rattle.site.proofs.ring.join.Tie as tie

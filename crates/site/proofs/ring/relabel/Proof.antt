@@ -2,20 +2,20 @@
 use Prim.Native.Nat.{_-_}
 use lib.ListN.{length}
 use Rattle.tables.specs.Link.{renamed}
-use Rattle.site.proofs.Renaming.{Renaming, start, next, end}
+use Rattle.plain.proofs.Mapping.{Mapping, map-start, map-next, map-end}
 use borrow.Author.Needs.{needs}
 use native.Mathlib.Omega.{arith}
 use Rattle.site.proofs.ring.relabel.Statement.{statement}
 use Rattle.site.proofs.ring.relabel.Tie as tie
 
 abbrev Inv-loop : tie.InvT-loop
-Inv-loop group₀ hi lo i₀ group i = Renaming (renamed hi lo) group₀ group i
+Inv-loop group₀ hi lo i₀ group i = Mapping (renamed hi lo) group₀ group i
 
 abbrev μ-loop : tie.MeasureT-loop
 μ-loop group₀ hi lo i₀ group i = length group₀ - i
 
 loop-holds : tie.Need-loop-holds Inv-loop μ-loop
-loop-holds c = start _ _
+loop-holds c = map-start _ _
 
 mul-rename : tie.Need-mul-rename Inv-loop μ-loop
 mul-rename c = search needs
@@ -39,13 +39,13 @@ loop-less : tie.Need-loop-less Inv-loop μ-loop
 loop-less c = omega (arith, c .before .before .before .loop .inv .size)
 
 loop-again : tie.Need-loop-again Inv-loop μ-loop
-loop-again c = next _ _ (c .before .before .before .loop .inv) _ (c .before .before .loop-test .taken) (c .rename .ensures)
+loop-again c = map-next _ _ (c .before .before .before .loop .inv) _ (c .before .before .loop-test .taken) (c .rename .ensures)
 
 same-length : tie.Need-same-length Inv-loop μ-loop
 same-length c = c .before .loop .inv .size
 
 returns : tie.Need-returns Inv-loop μ-loop
-returns c = end _ _ (c .before .loop .inv) (c .loop-test .left)
+returns c = map-end _ _ (c .before .loop .inv) (c .loop-test .left)
 
 pub relabel-spec : {M : Type 1} → statement M
 relabel-spec =

@@ -5,7 +5,7 @@ use native.Mathlib.Omega.{arith}
 use lib.ListN.{length}
 use borrow.Author.Needs.{needs}
 use Rattle.site.specs.TreeCheck.{unknown}
-use Rattle.site.proofs.Filling.{Filling, fill-start, fill-next}
+use Rattle.plain.proofs.Fill.{Filling, fill-start, fill-next}
 use Rattle.site.proofs.tree.blank.Statement.{statement}
 use Rattle.site.proofs.tree.blank.Tie as tie
 
