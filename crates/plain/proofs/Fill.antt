@@ -14,7 +14,7 @@ use Rattle.plain.proofs.Tabulate.{tabulated}
 abbrev pub Filled : List ℕ → ℕ → (ℕ → ℕ) → Type 0
 Filled l i f = (k : ℕ) → k < i → at l k ≡ f k
 
-fill-more : (l : List ℕ) (i v : ℕ) (f : ℕ → ℕ) → i < length l → Filled l i f → v ≡ f i → Filled (set l i v) (i + 1) f
+pub fill-more : (l : List ℕ) (i v : ℕ) (f : ℕ → ℕ) → i < length l → Filled l i f → v ≡ f i → Filled (set l i v) (i + 1) f
 fill-more l i v f h all e =
     below-more (λ k. at (set l i v) k ≡ f k) i (λ k b. getD-set-other l i k v 0 (omega arith) ∙ all k b) (getD-set-same l i v 0 h ∙ e)
 
