@@ -1,7 +1,7 @@
 -- The next record of a file over lent slices: what it comes to, and every slice as it leaves it.
 use mathlib.Core.Bool.{Bool, cond, _&&_}
 use mathlib.Core.List.{List, _++_}
-use Prim.Native.Nat.{ℕ, _*_}
+use Prim.Native.Nat.{ℕ, _*_, _%_}
 use lib.ListN.{length, take, drop}
 use lib.Dec.{leb, eqb}
 use Rattle.tables.specs.Tree.{mostMachines}
@@ -24,11 +24,11 @@ pub record Room : Type 0 where
 abbrev pub roomy : List ℕ → Bool
 roomy slice = eqb (length slice) mostMachines
 
--- the slices are of the right lengths, and the reader counts no more than they hold
+-- the slices are of the right lengths, and the reader counts no more than they hold, and whole links
 unfoldable pub fits : Reader → Room → Bool
 fits r room =
     roomy (room .up) && (roomy (room .depth) && (roomy (room .group) && (roomy (room .mark) && (eqb (length (room .batch)) (2 * mostLinks)
-    && (roomy (room .machines) && (roomy (room .links) && (leb (r .n) mostMachines && (leb (r .ups) (r .n) && leb (r .opened) (2 * mostLinks)))))))))
+    && (roomy (room .machines) && (roomy (room .links) && (leb (r .n) mostMachines && (leb (r .ups) (r .n) && (leb (r .opened) (2 * mostLinks) && eqb (r .opened % 2) 0)))))))))
 
 -- what has been read, as the front parts of the slices have it; the tables once the tree is whole
 unfoldable pub readOf : Reader → Room → file.Read
