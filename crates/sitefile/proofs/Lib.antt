@@ -1,1 +1,8 @@
 pub mod Worked
+pub mod Bodies
+pub mod Appending
+pub mod Digits
+pub mod OneLine
+pub mod Lines
+pub mod Widths
+pub mod Reporting

@@ -3,3 +3,4 @@ pub mod Text
 pub mod File
 pub mod Next
 pub mod Worked
+pub mod Written

@@ -1,0 +1,59 @@
+-- `text::named` meets its contract. The loop's invariant: `sum` counts the bytes below `k` that are not 0.
+use mathlib.Core.Bool.{not}
+use mathlib.Core.Path.{refl}
+use Prim.Native.Nat.{_-_}
+use native.Mathlib.Omega.{arith}
+use lib.Dec.{eqb}
+use lib.ListN.{length}
+use borrow.Author.Needs.{needs}
+use Rattle.plain.specs.Table.{at}
+use Rattle.plain.proofs.Loops.{Counted, counted-none, counted-more, counted-all}
+use Rattle.tables.specs.Outcome.{named}
+use Rattle.sitefile.proofs.text.named.Statement.{statement}
+use Rattle.sitefile.proofs.text.named.Tie as tie
+
+abbrev Inv-loop : tie.InvT-loop
+Inv-loop bytes sum₀ k₀ sum k = Counted (length bytes) (λ x. not (eqb (at bytes x) 0)) k sum
+
+abbrev μ-loop : tie.MeasureT-loop
+μ-loop bytes sum₀ k₀ sum k = length bytes - k
+
+loop-holds : tie.Need-loop-holds Inv-loop μ-loop
+loop-holds c = counted-none _ _
+
+shared-slice-read-one-for : tie.Need-shared-slice-read-one-for Inv-loop μ-loop
+shared-slice-read-one-for c = search needs
+
+one-for-requires : tie.Need-one-for-requires Inv-loop μ-loop
+one-for-requires c κs = search needs
+
+add-sum : tie.Need-add-sum Inv-loop μ-loop
+add-sum c = let q = counted-more (c .before .before .before .loop .inv) (c .before .before .loop-test .taken) refl (c .one-for .ensures) in omega arith
+
+add-k : tie.Need-add-k Inv-loop μ-loop
+add-k c = search needs
+
+loop-less : tie.Need-loop-less Inv-loop μ-loop
+loop-less c = search needs
+
+loop-again : tie.Need-loop-again Inv-loop μ-loop
+loop-again c = counted-more (c .before .before .before .loop .inv) (c .before .before .loop-test .taken) refl (c .one-for .ensures)
+
+returns : tie.Need-returns Inv-loop μ-loop
+unfolding named
+returns c = counted-all (c .before .loop .inv) (c .loop-test .left)
+
+pub named-spec : {M : Type 1} → statement M
+named-spec =
+    tie.close
+    (tie.spec
+    Inv-loop
+    μ-loop
+    loop-holds
+    shared-slice-read-one-for
+    one-for-requires
+    add-sum
+    add-k
+    loop-less
+    loop-again
+    returns)

@@ -1,0 +1,67 @@
+-- `text::uplink_lines` meets its contract. The loop's invariant: the lines of the uplinks below `k` are written.
+use mathlib.Core.Path.{sym}
+use Prim.Native.Nat.{_-_}
+use native.Mathlib.Omega.{arith}
+use lib.ListN.{length}
+use borrow.Author.Needs.{needs}
+use Rattle.sitefile.proofs.Appending.{reworded, room-reworded, size}
+use Rattle.sitefile.proofs.Lines.{Lining, uplinkPiece, uplink-pieces, start, room, next, end}
+use Rattle.sitefile.proofs.text.uplink_lines.Statement.{statement}
+use Rattle.sitefile.proofs.text.uplink_lines.Tie as tie
+
+abbrev Inv-loop : tie.InvT-loop
+Inv-loop out₀ at up links next₀ k₀ out next k = Lining (uplinkPiece up links) (length links) out₀ at k out next
+
+abbrev μ-loop : tie.MeasureT-loop
+μ-loop out₀ at up links next₀ k₀ out next k = length links - k
+
+loop-holds : tie.Need-loop-holds Inv-loop μ-loop
+loop-holds c = start _ _ _ _
+
+shared-slice-read-byte : tie.Need-shared-slice-read-byte Inv-loop μ-loop
+shared-slice-read-byte c = search needs
+
+mul-above : tie.Need-mul-above Inv-loop μ-loop
+mul-above c = search needs
+
+shared-slice-read-above : tie.Need-shared-slice-read-above Inv-loop μ-loop
+shared-slice-read-above c = search needs
+
+cast-above : tie.Need-cast-above Inv-loop μ-loop
+cast-above c = omega (arith, c .shared-slice-known4 .given (c .before .before .before .loop .k))
+
+line-for-requires : tie.Need-line-for-requires Inv-loop μ-loop
+line-for-requires c κs = let a = c .before .before .before .before .before .before .before .before .args in room (room-reworded (a .at) (length (a .out .now)) (uplink-pieces (a .up .now) (a .links .now) 0 (length (a .links .now))) (c .before .before .before .before .before .before .before .before .pre .room)) (c .before .before .before .loop-test .taken) (c .before .before .before .before .loop .inv)
+
+add-k : tie.Need-add-k Inv-loop μ-loop
+add-k c = search needs
+
+loop-less : tie.Need-loop-less Inv-loop μ-loop
+loop-less c = search needs
+
+loop-again : tie.Need-loop-again Inv-loop μ-loop
+loop-again c = next (c .before .before .before .before .before .before .loop-test .taken) (c .before .before .line-for .ensures) (c .before .before .before .before .before .before .before .loop .inv)
+
+same-length : tie.Need-same-length Inv-loop μ-loop
+same-length c = size (c .before .loop .inv .done)
+
+returns : tie.Need-returns Inv-loop μ-loop
+returns c = let a = c .before .before .before .before .before .args in reworded (sym (uplink-pieces (a .up .now) (a .links .now) 0 (length (a .links .now)))) (end (c .loop-test .left) (c .before .loop .inv))
+
+pub uplink-lines-spec : {M : Type 1} → statement M
+uplink-lines-spec =
+    tie.close
+    (tie.spec
+    Inv-loop
+    μ-loop
+    loop-holds
+    shared-slice-read-byte
+    mul-above
+    shared-slice-read-above
+    cast-above
+    line-for-requires
+    add-k
+    loop-less
+    loop-again
+    same-length
+    returns)
