@@ -87,17 +87,7 @@ fn answer_all(
     let mut left = MOST_FILES;
     while 0 < left {
         left -= 1;
-        if !answer_one(
-            file,
-            up,
-            depth,
-            group,
-            mark,
-            batch,
-            machines,
-            links,
-            text,
-        ) {
+        if !answer_one(file, up, depth, group, mark, batch, machines, links, text) {
             return;
         }
     }

@@ -4,3 +4,4 @@ pub mod File
 pub mod Next
 pub mod Worked
 pub mod Written
+pub mod Reading

@@ -1,5 +1,5 @@
 // The site file: its records, what they do to a site, and the text of what the program prints.
-mod read;
+pub mod read;
 pub mod record;
 pub mod text;
 

@@ -1,0 +1,31 @@
+use borrow.Author.Tests.{ne-eqb}
+use Rattle.sitefile.specs.Reading.{asked}
+use Rattle.sitefile.proofs.read.asked.Statement.{statement}
+use Rattle.sitefile.proofs.read.asked.Tie as tie
+
+returns : tie.Need-returns
+unfolding asked
+returns c = rw (c .match .keys1)
+
+returns-2 : tie.Need-returns-2
+unfolding asked
+returns-2 c = rw (c .match .keys2)
+
+returns-3 : tie.Need-returns-3
+unfolding asked
+returns-3 c = rw (c .match .keys3)
+
+returns-4 : tie.Need-returns-4
+unfolding asked
+returns-4 c = rw (c .match .keys4)
+
+returns-5 : tie.Need-returns-5
+unfolding asked
+returns-5 c = rw (c .match .keys5)
+
+returns-6 : tie.Need-returns-6
+unfolding asked
+returns-6 c = let n = c .match .rest .0 in rw (ne-eqb _ 1 (n .0 .0 .0 .1), ne-eqb _ 2 (n .0 .0 .1), ne-eqb _ 3 (n .0 .1), ne-eqb _ 4 (n .1))
+
+pub asked-spec : {M : Type 1} → statement M
+asked-spec = tie.close (tie.spec returns returns-2 returns-3 returns-4 returns-5 returns-6)

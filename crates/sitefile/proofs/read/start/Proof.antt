@@ -1,0 +1,60 @@
+use mathlib.Core.Path.{sym, _∙_}
+use lib.Seq.{length-take-le}
+use Rattle.sitefile.proofs.ReadCalls.{start-front}
+use borrow.Author.Needs.{needs}
+use Rattle.sitefile.proofs.read.start.Statement.{statement}
+use Rattle.sitefile.proofs.read.start.Tie as tie
+
+slice-aggregate-start : tie.Need-slice-aggregate-start
+slice-aggregate-start c = sym (length-take-le _ _ (c .before .before .before .before .before .pre .fronts .in-up))
+
+slice-relend-prefix-start : tie.Need-slice-relend-prefix-start
+slice-relend-prefix-start c = search needs
+
+slice-aggregate-start-2 : tie.Need-slice-aggregate-start-2
+slice-aggregate-start-2 c = sym (length-take-le _ _ (c .before .before .before .before .before .before .pre .fronts .in-depth))
+
+slice-relend-prefix-start-2 : tie.Need-slice-relend-prefix-start-2
+slice-relend-prefix-start-2 c = search needs
+
+slice-aggregate-start-3 : tie.Need-slice-aggregate-start-3
+slice-aggregate-start-3 c = sym (length-take-le _ _ (c .before .before .before .before .before .before .before .pre .fronts .in-group))
+
+slice-relend-prefix-start-3 : tie.Need-slice-relend-prefix-start-3
+slice-relend-prefix-start-3 c = search needs
+
+slice-aggregate-start-4 : tie.Need-slice-aggregate-start-4
+slice-aggregate-start-4 c = sym (length-take-le _ _ (c .before .before .before .before .before .before .before .before .pre .fronts .in-mark))
+
+start-requires : tie.Need-start-requires
+start-requires c κs = search needs
+
+same-length : tie.Need-same-length
+same-length c = search needs
+
+same-length-2 : tie.Need-same-length-2
+same-length-2 c = search needs
+
+same-length-3 : tie.Need-same-length-3
+same-length-3 c = search needs
+
+returns : tie.Need-returns
+returns c = let p = c .before .before .before .before .before .before .before .before .before .before .before .before .before .before .before .pre in
+    start-front _ _ _ _ _ _ _ _ (c .before .before .before .before .before .depth .given .0 ∙ length-take-le _ _ (p .fronts .in-depth)) (c .before .before .before .group .given .0 ∙ length-take-le _ _ (p .fronts .in-group)) (c .before .mark .given .0 ∙ length-take-le _ _ (p .fronts .in-mark)) p (c .before .before .before .before .before .before .start .ensures)
+
+pub start-spec : {M : Type 1} → statement M
+start-spec =
+    tie.close
+    (tie.spec
+    slice-aggregate-start
+    slice-relend-prefix-start
+    slice-aggregate-start-2
+    slice-relend-prefix-start-2
+    slice-aggregate-start-3
+    slice-relend-prefix-start-3
+    slice-aggregate-start-4
+    start-requires
+    same-length
+    same-length-2
+    same-length-3
+    returns)
