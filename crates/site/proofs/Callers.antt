@@ -38,23 +38,17 @@ pub report-one : {c v c′ v′ : ℕ} {l l′ : Bytes} (up : List ℕ) (t : Tab
     → (c ≡ c′) × (v ≡ v′) × (l ≡ l′)
 report-one up t o = one-outcome (reportOf up t o)
 
--- what the code of an answer tells of the checks
-module _ {A : Type 0} (v : Verdict) (came : A) (value : ℕ) (done : A) where
-  answer-done : {x : ℕ} {l : A} → Numbered v → outcome 0 x l ≡ answer v came value done → (v ≡ Sound) × (x ≡ value) × (l ≡ done)
+-- what the code of an answer tells of the checks, of its value and of what was lent
+module _ {A : Type 0} (came : A) (value : ℕ) (done : A) {code place : ℕ} {lent : A} where
+  pub answer-sound : (v : Verdict) → Numbered v → outcome code place lent ≡ answer v came value done → code ≡ 0 → (v ≡ Sound) × (place ≡ value) × (lent ≡ done)
   unfolding answer
-  answer-done {x} {l} n e = go v refl e
-    where
-      go : (u : Verdict) → v ≡ u → outcome 0 x l ≡ answer u came value done → (v ≡ Sound) × (x ≡ value) × (l ≡ done)
-      go Sound q e = (q, ap (λ r. r .value) e, ap (λ r. r .lent) e)
-      go (Refused c p) q e = absurd (n c p q (sym (ap (λ r. r .code) e)))
+  answer-sound Sound n e z = (refl, ap (λ r. r .value) e, ap (λ r. r .lent) e)
+  answer-sound (Refused c p) n e z = absurd (n c p refl (sym (ap (λ r. r .code) e) ∙ z))
 
-  answer-refused : {c x : ℕ} {l : A} → c ≢ 0 → outcome c x l ≡ answer v came value done → (v ≡ Refused c x) × (l ≡ came)
+  pub answer-refused : (v : Verdict) → code ≢ 0 → outcome code place lent ≡ answer v came value done → (v ≡ Refused code place) × (lent ≡ came)
   unfolding answer
-  answer-refused {c} {x} {l} o e = go v refl e
-    where
-      go : (u : Verdict) → v ≡ u → outcome c x l ≡ answer u came value done → (v ≡ Refused c x) × (l ≡ came)
-      go Sound q e = absurd (o (ap (λ r. r .code) e))
-      go (Refused d p) q e = (q ∙ (λ i. Refused (ap (λ r. r .code) (sym e) i) (ap (λ r. r .value) (sym e) i)), ap (λ r. r .lent) e)
+  answer-refused Sound o e = absurd (o (ap (λ r. r .code) e))
+  answer-refused (Refused c p) o e = ((λ i. Refused (ap (λ r. r .code) (sym e) i) (ap (λ r. r .value) (sym e) i)), ap (λ r. r .lent) e)
 
 -- Start done: a site with no batches
 pub record Started (up : List ℕ) (t t′ : Tables) (value : ℕ) : Type 0 where
@@ -66,7 +60,7 @@ pub record Started (up : List ℕ) (t t′ : Tables) (value : ℕ) : Type 0 wher
 pub start-done : {value : ℕ} {t′ : Tables} (up : List ℕ) (t : Tables) → outcome 0 value t′ ≡ startOf up t → Started up t t′ value
 unfolding startOf startVerdict leaves
 start-done up t e =
-    let (s, v, l) = answer-done (startVerdict up t) t (length up) (fresh up) (start-numbered up t) e in
+    let (s, v, l) = answer-sound t (length up) (fresh up) (startVerdict up t) (start-numbered up t) e refl in
     let a = all-sound _ s in
     record { lived = record { size = a .0; tree = a .1 .1 .0; batches = λ b m. absurd (empty m) }; sizes = a .1 .0; counted = v; fresh-tables = l }
 
@@ -83,7 +77,7 @@ pub add-done : {value : ℕ} {t′ : Tables} (up batch : List ℕ) (t : Tables) 
 unfolding addOf addVerdict
 add-done up batch t e =
     let u = after up (pairs batch) t in
-    let (s, v, l) = answer-done (addVerdict up batch t) t (rise t u) u (add-numbered up batch t) e in
+    let (s, v, l) = answer-sound t (rise t u) u (addVerdict up batch t) (add-numbered up batch t) e refl in
     let a = all-sound _ s in
     let (h, k, q) = rules-exact up t (a .1 .1 .0) (a .1 .0) .0 (a .1 .1 .1 .0) in
     record {
@@ -107,7 +101,7 @@ pub report-done : {value : ℕ} {o′ : Bytes} (up : List ℕ) (t : Tables) (o :
 unfolding reportOf reportVerdict tableSizes
 report-done {value} {o′} up t o e =
     let filled : Bytes = record { machines = machineBytes up t; links = linkBytes up t } in
-    let (s, v, l) = answer-done (reportVerdict up t o) o (named (machineBytes up t)) filled (report-numbered up t o) e in
+    let (s, v, l) = answer-sound o (named (machineBytes up t)) filled (reportVerdict up t o) (report-numbered up t o) e refl in
     let a = all-sound _ s in
     let b = all-sound _ (a .1 .0) in
     let (h, k, q) = rules-exact up t (a .1 .1 .0) (sound-all (tableSizes up t) (b .0, (b .1 .0, (b .1 .1 .0, tt)))) .0 (a .1 .1 .1 .0) in
@@ -120,12 +114,12 @@ report-done {value} {o′} up t o e =
 -- a refusal: the first check that refused, and what was lent as it came
 pub start-refused : {c value : ℕ} {t′ : Tables} (up : List ℕ) (t : Tables) → c ≢ 0 → outcome c value t′ ≡ startOf up t → (startVerdict up t ≡ Refused c value) × (t′ ≡ t)
 unfolding startOf
-start-refused up t = answer-refused (startVerdict up t) t (length up) (fresh up)
+start-refused up t = answer-refused t (length up) (fresh up) (startVerdict up t)
 
 pub add-refused : {c value : ℕ} {t′ : Tables} (up batch : List ℕ) (t : Tables) → c ≢ 0 → outcome c value t′ ≡ addOf up batch t → (addVerdict up batch t ≡ Refused c value) × (t′ ≡ t)
 unfolding addOf
-add-refused up batch t = let u = after up (pairs batch) t in answer-refused (addVerdict up batch t) t (rise t u) u
+add-refused up batch t = let u = after up (pairs batch) t in answer-refused t (rise t u) u (addVerdict up batch t)
 
 pub report-refused : {c value : ℕ} {o′ : Bytes} (up : List ℕ) (t : Tables) (o : Bytes) → c ≢ 0 → outcome c value o′ ≡ reportOf up t o → (reportVerdict up t o ≡ Refused c value) × (o′ ≡ o)
 unfolding reportOf
-report-refused up t o = answer-refused (reportVerdict up t o) o (named (machineBytes up t)) (record { machines = machineBytes up t; links = linkBytes up t })
+report-refused up t o = answer-refused o (named (machineBytes up t)) (record { machines = machineBytes up t; links = linkBytes up t }) (reportVerdict up t o)

@@ -6,10 +6,10 @@ pub mod OneLine
 pub mod Lines
 pub mod Widths
 pub mod Reporting
-pub mod Codes
 pub mod Fronts
 pub mod ReadBodies
 pub mod ReadDue
 pub mod ReadKinds
 pub mod ReadCalls
 pub mod ReadNext
+pub mod OneOutcome

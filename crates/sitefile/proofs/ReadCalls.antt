@@ -27,7 +27,8 @@ use Rattle.sitefile.specs.Reading.{roomOf, went, Fronts}
 use Rattle.sitefile.specs.declared.Reader.{Reader}
 use Rattle.sitefile.specs.declared.Step.{Step}
 use Rattle.sitefile.specs.declared.Step.the-variants as steps
-use Rattle.sitefile.proofs.Codes.{add-coded, report-coded, answer-sound, answer-refused}
+use Rattle.tables.proofs.Codes.{add-numbered, report-numbered}
+use Rattle.site.proofs.Callers.{answer-sound, answer-refused}
 use Rattle.sitefile.proofs.Fronts.{laid-front, laid-size}
 use Rattle.sitefile.proofs.ReadKinds.{readerAt}
 
@@ -124,13 +125,13 @@ module _ (r : Reader) (up depth group mark batch machines links : List ℕ) wher
         let u : length (take (r .n) up) ≡ r .n = length-take-le (r .n) up (f .in-up) in
         by-cases (eqb code 0)
         (λ z.
-        let (k, l) = answer-sound part (rise part t′) t′ v (add-coded tree links-open part) a (eqb-true code 0 z) in
+        let (k, _, l) = answer-sound part (rise part t′) t′ v (add-numbered tree links-open part) a (eqb-true code 0 z) in
         let d = came-new depth depth′ (t′ .depth) sd (ap (λ t. t .depth) l) in
         let g = came-new group group′ (t′ .group) sg (ap (λ t. t .group) l) in
         let m = came-new mark mark′ (t′ .mark) sm (ap (λ t. t .mark) l) in
         rw (e, z, read-whole r came whole, k, d, g, m, p, laid-front (r .n) up, u) refl)
         (λ z.
-        let (k, l) = answer-refused part (rise part t′) t′ v a (eqb-false code 0 z) in
+        let (k, l) = answer-refused part (rise part t′) t′ v (eqb-false code 0 z) a in
         let d = came-back (r .n) depth depth′ (ap (λ t. t .depth) l) in
         let g = came-back (r .n) group group′ (ap (λ t. t .group) l) in
         let m = came-back (r .n) mark mark′ (ap (λ t. t .mark) l) in
@@ -156,12 +157,12 @@ module _ (r : Reader) (up depth group mark batch machines links : List ℕ) wher
         report-verdict done o (length-tabulate (length tree) (machineByte tree part) ∙ u ∙ sym (length-take-le (r .n) machines hm)) (length-tabulate (length tree) (linkByte tree part) ∙ u ∙ sym (length-take-le (r .n) links hl)) in
         by-cases (eqb code 0)
         (λ z.
-        let (k, l) = answer-sound o (named (machineBytes tree part)) done v (report-coded tree part o) a (eqb-true code 0 z) in
+        let (k, _, l) = answer-sound o (named (machineBytes tree part)) done v (report-numbered tree part o) a (eqb-true code 0 z) in
         let b = came-new machines machines′ (machineBytes tree part) sm (ap (λ t. t .machines) l) in
         let c = came-new links links′ (linkBytes tree part) sl (ap (λ t. t .links) l) in
         rw (e, z, read-whole r came whole, w ∙ k, b, c, p, laid-front (r .n) up, laid-front (r .n) depth, laid-front (r .n) group, laid-front (r .n) mark, u) refl)
         (λ z.
-        let (k, l) = answer-refused o (named (machineBytes tree part)) done v a (eqb-false code 0 z) in
+        let (k, l) = answer-refused o (named (machineBytes tree part)) done v (eqb-false code 0 z) a in
         let b = came-back (r .n) machines machines′ (ap (λ t. t .machines) l) in
         let c = came-back (r .n) links links′ (ap (λ t. t .links) l) in
         rw (e, z, read-whole r came whole, w ∙ k, b, c) refl)

@@ -23,7 +23,8 @@ use Rattle.sitefile.specs.Reading as reading
 use Rattle.sitefile.specs.Reading.{roomOf, went, numberAt}
 use Rattle.sitefile.specs.declared.Reader.{Reader}
 use Rattle.sitefile.specs.declared.Step.the-variants as steps
-use Rattle.sitefile.proofs.Codes.{tree-coded, answer-sound, answer-refused}
+use Rattle.tables.proofs.Codes.{tree-numbered}
+use Rattle.site.proofs.Callers.{answer-sound, answer-refused}
 use Rattle.sitefile.proofs.Fronts.{laid-front, laid-one, laid-two, length-more}
 
 abbrev pub readerAt : ℕ → ℕ → ℕ → ℕ → Reader
@@ -111,7 +112,7 @@ module _ (bytes : List ℕ) (r : Reader) (up depth group mark batch machines lin
     uplink-last z =
         let p : r .place + 1 + 2 ≡ r .place + 3 = omega arith in
         let b : outcome code value (tablesOf depth′ group′ mark′) ≡ answer (treeVerdict grown) own (r .n) (reading.laidTables (fresh grown) own) = rw (grown-is q) at a in
-        let (s, l) = answer-sound own (r .n) (reading.laidTables (fresh grown) own) (treeVerdict grown) (tree-coded grown) b z in
+        let (s, _, l) = answer-sound own (r .n) (reading.laidTables (fresh grown) own) (treeVerdict grown) (tree-numbered grown) b z in
         let d : depth′ ≡ laid (fresh grown .depth) depth = ap (λ t. t .depth) l in
         let g : group′ ≡ laid (fresh grown .group) group = ap (λ t. t .group) l in
         let m : mark′ ≡ laid (fresh grown .mark) mark = ap (λ t. t .mark) l in
@@ -122,7 +123,7 @@ module _ (bytes : List ℕ) (r : Reader) (up depth group mark batch machines lin
     unfolding reading.uplinkWent file.uplink readOf
     uplink-refused {old} o f =
         let b : outcome code value (tablesOf depth′ group′ mark′) ≡ answer (treeVerdict grown) own (r .n) (reading.laidTables (fresh grown) own) = rw (grown-is q) at a in
-        let (s, l) = answer-refused own (r .n) (reading.laidTables (fresh grown) own) (treeVerdict grown) b f in
+        let (s, l) = answer-refused own (r .n) (reading.laidTables (fresh grown) own) (treeVerdict grown) f b in
         let d : depth′ ≡ depth = ap (λ t. t .depth) l in
         let g : group′ ≡ group = ap (λ t. t .group) l in
         let m : mark′ ≡ mark = ap (λ t. t .mark) l in

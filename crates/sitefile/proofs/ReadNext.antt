@@ -8,7 +8,7 @@ use native.Mathlib.Omega.{arith}
 use lib.ListN.{length, take}
 use lib.Seq.{length-take-le}
 use lib.Dec.{eqb}
-use borrow.Author.Tests.{not-true, not-false, eq-eqb}
+use borrow.Author.Tests.{not-true, not-false}
 use Rattle.plain.proofs.Says.{Says, says-and, says-eq, says-le}
 use Rattle.tables.specs.Tree.{mostMachines}
 use Rattle.tables.specs.Batch.{mostLinks}

@@ -42,7 +42,7 @@ size-numbered n = unless-numbered (ltb 0 n && leb n mostMachines) 1 n (omega ari
 sized-numbered : (which size n : ℕ) → Numbered (sized which size n)
 sized-numbered which size n = unless-numbered (eqb size n) 2 which (omega arith)
 
-tree-numbered : (up : List ℕ) → Numbered (treeVerdict up)
+pub tree-numbered : (up : List ℕ) → Numbered (treeVerdict up)
 unfolding treeVerdict
 tree-numbered up = let n = length up in checks-numbered _ (
   least-numbered 3 n (λ v. leb n (at up v)) (omega arith),
