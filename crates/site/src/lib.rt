@@ -12,6 +12,7 @@ mod rules;
 mod table;
 mod tree;
 
+// A site is the slices that its calls are lent; the type has the limits and the calls.
 pub struct Site {}
 
 // The answer of a call: its code, and the value that goes with it.
@@ -20,16 +21,25 @@ pub struct Answer {
     pub value: usize,
 }
 
-// Why something is refused.
+// Why something is refused, in the order of the codes.
 pub enum Fault {
+    // There is no machine, or there are too many.
     Size,
+    // Another slice is not as long as up.
     Slice,
+    // An up entry is no machine.
     Entry,
+    // There is not exactly one hub.
     Hubs,
+    // A machine never reaches the hub.
     Stray,
+    // A machine breaks a rule: no history leaves these tables.
     Rule,
+    // A batch has an odd length, or is too long.
     Length,
+    // A link's end is no machine.
     End,
+    // A link joins a machine to itself.
     Loop,
 }
 

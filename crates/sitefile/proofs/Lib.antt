@@ -7,7 +7,6 @@ pub mod Lines
 pub mod Widths
 pub mod Reporting
 pub mod Fronts
-pub mod ReadBodies
 pub mod ReadDue
 pub mod ReadKinds
 pub mod ReadCalls

@@ -1,6 +1,6 @@
 -- What is due, test by test as the code makes them, and what each case tells of the step that the file defines. Both go by the same tests, so one
 -- law takes them together.
-use mathlib.Core.Path.{_≡_, refl, sym, ap, _∙_}
+use mathlib.Core.Path.{_≡_, refl, sym, _∙_}
 use mathlib.Core.Bool.{Bool, true, false, cond, _&&_, not}
 use mathlib.Core.List.{List}
 use Prim.Native.Nat.{ℕ, _+_, _-_, _≤_, _<_}
@@ -13,11 +13,10 @@ use Rattle.plain.proofs.Says.{says-and, says-lt, says-le, says-eq}
 use Rattle.sitefile.specs.Record.{known, bodyLength, bodyOf, word}
 use Rattle.sitefile.specs.File as file
 use Rattle.sitefile.specs.Next.{readerOf}
-use Rattle.sitefile.specs.Reading.{numberAt, isWhole, isClosed, placed, asked, dueOf}
+use Rattle.sitefile.specs.Reading.{isWhole, isClosed, placed, asked, dueOf}
 use Rattle.sitefile.specs.declared.Reader.{Reader}
 use Rattle.sitefile.specs.declared.read.Due.{Due}
 use Rattle.sitefile.specs.declared.read.Due.the-variants as due
-use Rattle.sitefile.proofs.ReadBodies.{first-number, second-number}
 
 -- kinds that go by the tree alone
 pub placed-other : (kind n ups opened : ℕ) → (kind ≡ 1 → ⊥) → (kind ≡ 2 → ⊥) → (kind ≡ 5 → ⊥) → placed kind n ups opened ≡ isWhole n ups
@@ -63,9 +62,9 @@ module _ (bytes : List ℕ) (r : file.Read) where
   pub data Told : Due → file.Next → Type 0 where
     ends : {s : file.Next} → s ≡ file.ended → Told due.End s
     stops : {c v : ℕ} {s : file.Next} → s ≡ file.stop c v → Told (due.Stop c v) s
-    sizes : {s : file.Next} → r .place + 3 ≤ length bytes → s ≡ file.size r (numberAt bytes (r .place + 1)) → Told due.Size s
-    uplinks : {s : file.Next} → r .place + 3 ≤ length bytes → length (r .up) < r .n → s ≡ file.uplink r (numberAt bytes (r .place + 1)) → Told due.Uplink s
-    links : {s : file.Next} → r .place + 5 ≤ length bytes → s ≡ file.link r (numberAt bytes (r .place + 1)) (numberAt bytes (r .place + 3)) → Told due.Link s
+    sizes : {s : file.Next} → r .place + 3 ≤ length bytes → s ≡ file.size r (word (bodyOf bytes (r .place)) 0) → Told due.Size s
+    uplinks : {s : file.Next} → r .place + 3 ≤ length bytes → length (r .up) < r .n → s ≡ file.uplink r (word (bodyOf bytes (r .place)) 0) → Told due.Uplink s
+    links : {s : file.Next} → r .place + 5 ≤ length bytes → s ≡ file.link r (word (bodyOf bytes (r .place)) 0) (word (bodyOf bytes (r .place)) 1) → Told due.Link s
     closes : {s : file.Next} → r .place < length bytes → length (r .up) ≡ r .n → s ≡ file.close r → Told due.Close s
     reports : {s : file.Next} → r .place < length bytes → length (r .up) ≡ r .n → s ≡ file.report r → Told due.Report s
 
@@ -84,22 +83,20 @@ module _ (bytes : List ℕ) (r : file.Read) where
     unfolding bodyLength
     done-size e =
         let s : bodyLength kind ≡ 2 = rw e refl in
-        sizes (omega arith) (ap (file.size r) (first-number bytes (r .place) 2 s (omega arith) (omega arith)))
+        sizes (omega arith) refl
 
     done-uplink : kind ≡ 2 → Told due.Uplink (file.uplink r (word (bodyOf bytes (r .place)) 0))
     unfolding bodyLength file.inPlace
     done-uplink e =
         let s : bodyLength kind ≡ 2 = rw e refl in
         let q : ltb (length (r .up)) (r .n) ≡ true = rw e at p in
-        uplinks (omega arith) (ltb-true _ _ q) (ap (file.uplink r) (first-number bytes (r .place) 2 s (omega arith) (omega arith)))
+        uplinks (omega arith) (ltb-true _ _ q) refl
 
     done-link : kind ≡ 3 → Told due.Link (file.link r (word (bodyOf bytes (r .place)) 0) (word (bodyOf bytes (r .place)) 1))
     unfolding bodyLength
     done-link e =
         let s : bodyLength kind ≡ 4 = rw e refl in
-        let a = first-number bytes (r .place) 4 s (omega arith) (omega arith) in
-        let b = second-number bytes (r .place) 4 s (omega arith) (omega arith) in
-        links (omega arith) (ap (λ x. file.link r x (word (bodyOf bytes (r .place)) 1)) a ∙ ap (file.link r (numberAt bytes (r .place + 1))) b)
+        links (omega arith) refl
 
     done-close : kind ≡ 4 → Told due.Close (file.close r)
     unfolding file.inPlace
@@ -141,13 +138,13 @@ module _ (bytes : List ℕ) (r : file.Read) where
   pub stop-told : {c v : ℕ} {s : file.Next} → Told (due.Stop c v) s → s ≡ file.stop c v
   stop-told (stops e) = e
 
-  pub size-told : {s : file.Next} → Told due.Size s → (r .place + 3 ≤ length bytes) × (s ≡ file.size r (numberAt bytes (r .place + 1)))
+  pub size-told : {s : file.Next} → Told due.Size s → (r .place + 3 ≤ length bytes) × (s ≡ file.size r (word (bodyOf bytes (r .place)) 0))
   size-told (sizes h e) = (h, e)
 
-  pub uplink-told : {s : file.Next} → Told due.Uplink s → (r .place + 3 ≤ length bytes) × (length (r .up) < r .n) × (s ≡ file.uplink r (numberAt bytes (r .place + 1)))
+  pub uplink-told : {s : file.Next} → Told due.Uplink s → (r .place + 3 ≤ length bytes) × (length (r .up) < r .n) × (s ≡ file.uplink r (word (bodyOf bytes (r .place)) 0))
   uplink-told (uplinks h m e) = (h, m, e)
 
-  pub link-told : {s : file.Next} → Told due.Link s → (r .place + 5 ≤ length bytes) × (s ≡ file.link r (numberAt bytes (r .place + 1)) (numberAt bytes (r .place + 3)))
+  pub link-told : {s : file.Next} → Told due.Link s → (r .place + 5 ≤ length bytes) × (s ≡ file.link r (word (bodyOf bytes (r .place)) 0) (word (bodyOf bytes (r .place)) 1))
   link-told (links h e) = (h, e)
 
   pub close-told : {s : file.Next} → Told due.Close s → (r .place < length bytes) × (length (r .up) ≡ r .n) × (s ≡ file.close r)

@@ -16,11 +16,11 @@ use Rattle.tables.specs.Tables.{Tables, fresh}
 use Rattle.tables.specs.Batch.{mostLinks}
 use Rattle.tables.specs.Outcome.{answer}
 use Rattle.site.specs.Lent.{tablesOf, outcome}
-use Rattle.sitefile.specs.Record.{bodyLength}
+use Rattle.sitefile.specs.Record.{bodyLength, bodyOf, word}
 use Rattle.sitefile.specs.File as file
 use Rattle.sitefile.specs.Next.{Room, readOf, holding, laid}
 use Rattle.sitefile.specs.Reading as reading
-use Rattle.sitefile.specs.Reading.{roomOf, went, numberAt}
+use Rattle.sitefile.specs.Reading.{roomOf, went}
 use Rattle.sitefile.specs.declared.Reader.{Reader}
 use Rattle.sitefile.specs.declared.Step.the-variants as steps
 use Rattle.tables.proofs.Codes.{tree-numbered}
@@ -30,8 +30,12 @@ use Rattle.sitefile.proofs.Fronts.{laid-front, laid-one, laid-two, leng
 abbrev pub readerAt : ℕ → ℕ → ℕ → ℕ → Reader
 readerAt place n ups opened = record { place = place; n = n; ups = ups; opened = opened }
 
+-- a number of the part that is handed back as the body is a number of the body
+pub number-in : {part body : List ℕ} {m : ℕ} (i : ℕ) → part ≡ body → m ≡ word part i → m ≡ word body i
+number-in i b e = e ∙ ap (λ l. word l i) b
+
 -- kind 1
-module _ (bytes : List ℕ) (r : Reader) (m : ℕ) (e : m ≡ numberAt bytes (r .place + 1)) where
+module _ (bytes : List ℕ) (r : Reader) (m : ℕ) (e : m ≡ word (bodyOf bytes (r .place)) 0) where
   pub size-none : m ≡ 0 → (room : Room) → went (steps.Refused 1 m) room ≡ reading.sizeWent bytes r room
   unfolding reading.sizeWent file.size sizeVerdict
   size-none z room = rw (sym e, z) refl
@@ -63,7 +67,7 @@ module _ (bytes : List ℕ) (r : Reader) (up depth group mark batch machines lin
   unfolding reading.linkWent file.link readOf
   link-full f h = rw (length-take-le (r .opened) batch h, le-ltb (r .opened) (2 * mostLinks) f) refl
 
-  pub link-read : {a b : ℕ} → a ≡ numberAt bytes (r .place + 1) → b ≡ numberAt bytes (r .place + 3) → r .opened < 2 * mostLinks → r .opened + 2 ≤ length batch → r .ups ≤ length up
+  pub link-read : {a b : ℕ} → a ≡ word (bodyOf bytes (r .place)) 0 → b ≡ word (bodyOf bytes (r .place)) 1 → r .opened < 2 * mostLinks → r .opened + 2 ≤ length batch → r .ups ≤ length up
       → went (steps.Read (readerAt (r .place + 5) (r .n) (r .ups) (r .opened + 2))) (roomOf up depth group mark (set (set batch (r .opened) a) (r .opened + 1) b) machines links)
       ≡ reading.linkWent bytes r room₃
   unfolding reading.linkWent file.link readOf holding bodyLength
@@ -78,7 +82,7 @@ module _ (bytes : List ℕ) (r : Reader) (up depth group mark batch machines lin
       refl
 
 -- kind 2, before the last
-module _ (bytes : List ℕ) (r : Reader) (up depth group mark batch machines links : List ℕ) {u : ℕ} (e : u ≡ numberAt bytes (r .place + 1)) (more : r .ups < length up) where
+module _ (bytes : List ℕ) (r : Reader) (up depth group mark batch machines links : List ℕ) {u : ℕ} (e : u ≡ word (bodyOf bytes (r .place)) 0) (more : r .ups < length up) where
   abbrev room₂ : Room
   room₂ = roomOf up depth group mark batch machines links
 

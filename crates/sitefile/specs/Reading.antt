@@ -10,7 +10,7 @@ use Rattle.tables.specs.Tree.{mostMachines, treeVerdict}
 use Rattle.tables.specs.Tables.{Tables, fresh}
 use Rattle.tables.specs.Batch.{mostLinks}
 use Rattle.tables.specs.Outcome.{Answer, answer}
-use Rattle.sitefile.specs.Record.{known, bodyLength}
+use Rattle.sitefile.specs.Record.{known, bodyLength, bodyOf, word}
 use Rattle.sitefile.specs.File as file
 use Rattle.sitefile.specs.Next.{Room, Went, readOf, laid, wentOf}
 use Rattle.sitefile.specs.declared.Reader.{Reader}
@@ -32,10 +32,6 @@ lengthsFit up depth group mark batch machines links =
 
 unfoldable pub countsFit : ℕ → ℕ → ℕ → Bool
 countsFit n ups opened = leb n mostMachines && (leb ups n && (leb opened (2 * mostLinks) && eqb (opened % 2) 0))
-
--- the 16-bit number at a place
-abbrev pub numberAt : List ℕ → ℕ → ℕ
-numberAt bytes place = at bytes place + 256 * at bytes (place + 1)
 
 -- the tree is whole; and no links are open
 unfoldable pub isWhole : ℕ → ℕ → Bool
@@ -64,13 +60,13 @@ dueOf bytes r =
 
 -- what a record of each kind leads to
 unfoldable pub sizeWent : List ℕ → Reader → Room → Went
-sizeWent bytes r room = wentOf (file.size (readOf r room) (numberAt bytes (r .place + 1))) room
+sizeWent bytes r room = wentOf (file.size (readOf r room) (word (bodyOf bytes (r .place)) 0)) room
 
 unfoldable pub uplinkWent : List ℕ → Reader → Room → Went
-uplinkWent bytes r room = wentOf (file.uplink (readOf r room) (numberAt bytes (r .place + 1))) room
+uplinkWent bytes r room = wentOf (file.uplink (readOf r room) (word (bodyOf bytes (r .place)) 0)) room
 
 unfoldable pub linkWent : List ℕ → Reader → Room → Went
-linkWent bytes r room = wentOf (file.link (readOf r room) (numberAt bytes (r .place + 1)) (numberAt bytes (r .place + 3))) room
+linkWent bytes r room = wentOf (file.link (readOf r room) (word (bodyOf bytes (r .place)) 0) (word (bodyOf bytes (r .place)) 1)) room
 
 unfoldable pub closeWent : Reader → Room → Went
 closeWent r room = wentOf (file.close (readOf r room)) room

@@ -1,6 +1,7 @@
 // The reader of the site file.
 use crate::Reader;
 use crate::Step;
+use crate::record;
 use site::Answer;
 use site::Site;
 ghost use mathlib.Core.Path.{_≡_};
@@ -10,9 +11,9 @@ ghost use Prim.Native.Nat.{ℕ, _+_, _≤_};
 ghost use lib.ListN.{length};
 ghost use lib.Dec.{eqb};
 ghost use Rattle.site.specs.Lent.{tablesOf, outcome};
-ghost use Rattle.sitefile.specs.Record.{known, bodyLength};
+ghost use Rattle.sitefile.specs.Record.{known};
 ghost use Rattle.sitefile.specs.Next.{Room, nextOf};
-ghost use Rattle.sitefile.specs.Reading.{roomOf, went, lengthsFit, countsFit, numberAt, isWhole, isClosed, placed, asked, dueOf, sizeWent, uplinkWent, linkWent, closeWent, reportWent, StartDue, startFront, UplinkDue, LinkDue, CloseDue, ReportDue};
+ghost use Rattle.sitefile.specs.Reading.{roomOf, went, lengthsFit, countsFit, isWhole, isClosed, placed, asked, dueOf, sizeWent, uplinkWent, linkWent, closeWent, reportWent, StartDue, startFront, UplinkDue, LinkDue, CloseDue, ReportDue};
 
 // What the file asks for next.
 enum Due {
@@ -96,14 +97,6 @@ fn fits(
     counts_fit(r.n, r.ups, r.opened)
 }
 
-// The number at a place of the file, low byte first.
-fn number(file: &[u8], at: usize) -> u16
-    requires { ⌜ at + 2 ≤ length (now file) ⌝ }
-    ensures { λ x. ⌜ x ≡ numberAt (now (file .entry)) at ⌝ }
-{
-    (file[at] as u16) + 256 * (file[at + 1] as u16)
-}
-
 // Whether there is such a kind of record.
 fn known(kind: u8) -> bool
     ensures { λ b. ⌜ b ≡ known kind ⌝ }
@@ -111,17 +104,6 @@ fn known(kind: u8) -> bool
     match kind {
         1..=5 => true,
         0 | 6..=255 => false,
-    }
-}
-
-// How many bytes follow the kind.
-fn body_of(kind: u8) -> usize
-    ensures { λ k. ⌜ k ≡ bodyLength kind ⌝ }
-{
-    match kind {
-        1 | 2 => 2,
-        3 => 4,
-        0 | 4..=255 => 0,
     }
 }
 
@@ -189,7 +171,7 @@ fn look(file: &[u8], r: Reader) -> Due
     if !in_place(kind, r.n, r.ups, r.opened) {
         return Due::Stop(12, place);
     }
-    if len - place - 1 < body_of(kind) {
+    if len - place - 1 < record::body_len(kind) {
         return Due::Stop(10, len);
     }
     asked(kind)
@@ -201,7 +183,8 @@ fn size(file: &[u8], r: Reader) -> Step
     ensures { λ s. ⌜ ((room : Room) → went s room ≡ sizeWent (now (file .entry)) r room) ⌝ }
 {
     let place = r.place;
-    let n = number(file, place + 1) as usize;
+    let body = record::body(file, place);
+    let n = record::word(body, 0) as usize;
     if n == 0 {
         return Step::Refused(1, n);
     }
@@ -242,7 +225,8 @@ fn uplink(
     let n = r.n;
     let ups = r.ups;
     let old = up[ups];
-    up[ups] = number(file, place + 1);
+    let body = record::body(file, place);
+    up[ups] = record::word(body, 0);
     let next = Reader {
         place: place + 3,
         n,
@@ -271,8 +255,9 @@ fn link(file: &[u8], r: Reader, batch: &mut [u16]) -> Step
     if 2 * Site::LINKS <= opened {
         return Step::Refused(7, 2 * Site::LINKS + 2);
     }
-    batch[opened] = number(file, place + 1);
-    batch[opened + 1] = number(file, place + 3);
+    let body = record::body(file, place);
+    batch[opened] = record::word(body, 0);
+    batch[opened + 1] = record::word(body, 1);
     Step::Read(Reader {
         place: place + 5,
         n: r.n,

@@ -33,17 +33,17 @@ sub-if5 c = search needs
 sub-if5-2 : tie.Need-sub-if5-2
 sub-if5-2 c = search needs
 
-body-of-requires : tie.Need-body-of-requires
-body-of-requires c κs = search needs
+body-len-requires : tie.Need-body-len-requires
+body-len-requires c κs = search needs
 
 returns-5 : tie.Need-returns-5
-returns-5 c = look-short _ _ (c .before .before .before .before .before .before .before .if1 .left) (c .before .before .before .before .before .known .ensures) (c .before .before .before .before .if3 .left) (c .before .before .before .in-place .ensures) (c .before .before .if4 .left) (c .before .body-of .ensures) (c .if5 .taken)
+returns-5 c = look-short _ _ (c .before .before .before .before .before .before .before .if1 .left) (c .before .before .before .before .before .known .ensures) (c .before .before .before .before .if3 .left) (c .before .before .before .in-place .ensures) (c .before .before .if4 .left) (c .before .body-len .ensures) (c .if5 .taken)
 
 asked-requires : tie.Need-asked-requires
 asked-requires c κs = search needs
 
 returns-6 : tie.Need-returns-6
-returns-6 c = look-whole _ _ (c .before .before .before .before .before .before .before .before .if1 .left) (c .before .before .before .before .before .before .known .ensures) (c .before .before .before .before .before .if3 .left) (c .before .before .before .before .in-place .ensures) (c .before .before .before .if4 .left) (c .before .before .body-of .ensures) (c .before .if5 .left) (c .asked .ensures)
+returns-6 c = look-whole _ _ (c .before .before .before .before .before .before .before .before .if1 .left) (c .before .before .before .before .before .before .known .ensures) (c .before .before .before .before .before .if3 .left) (c .before .before .before .before .in-place .ensures) (c .before .before .before .if4 .left) (c .before .before .body-len .ensures) (c .before .if5 .left) (c .asked .ensures)
 
 pub look-spec : {M : Type 1} → statement M
 look-spec =
@@ -59,7 +59,7 @@ look-spec =
     returns-4
     sub-if5
     sub-if5-2
-    body-of-requires
+    body-len-requires
     returns-5
     asked-requires
     returns-6)

@@ -1,5 +1,5 @@
 use lib.ListN.{length-set}
-use Rattle.sitefile.proofs.ReadKinds.{uplink-more, uplink-last, uplink-refused}
+use Rattle.sitefile.proofs.ReadKinds.{number-in, uplink-more, uplink-last, uplink-refused}
 use Prim.Native.Nat.{_<_, _+_}
 use mathlib.Core.Path.{_≡_, refl}
 use lib.ListN.{length}
@@ -14,11 +14,11 @@ mul-old c = search needs
 slice-read-old : tie.Need-slice-read-old
 slice-read-old c = search needs
 
-add-number : tie.Need-add-number
-add-number c = search needs
+body-requires : tie.Need-body-requires
+body-requires c κs = search needs
 
-number-requires : tie.Need-number-requires
-number-requires c κs = search needs
+word-requires : tie.Need-word-requires
+word-requires c κs = search needs
 
 mul-up : tie.Need-mul-up
 mul-up c = search needs
@@ -39,7 +39,7 @@ same-length : tie.Need-same-length
 same-length c = search needs
 
 returns : tie.Need-returns
-returns c = λ batch machines links. let p = c .before .before .before .before .before .before .before .before .pre in uplink-more _ _ _ _ _ _ batch machines links (c .before .number .ensures) (omega (arith, p .more, p .fronts .in-up)) (c .if1 .taken)
+returns c = λ batch machines links. let p = c .before .before .before .before .before .before .before .before .before .pre in uplink-more _ _ _ _ _ _ batch machines links (number-in 0 (c .before .before .body .ensures) (c .before .word .ensures)) (omega (arith, p .more, p .fronts .in-up)) (c .if1 .taken)
 
 start-requires : tie.Need-start-requires
 start-requires c κs = search needs
@@ -57,17 +57,17 @@ same-length-5 : tie.Need-same-length-5
 same-length-5 c = search needs
 
 returns-2 : tie.Need-returns-2
-returns-2 c = λ batch machines links. let p = c .before .before .before .before .before .before .before .before .before .before .before .before .before .before .before .before .before .before .before .before .before .pre in
-    let a = c .before .before .before .before .before .before .before .before .before .before .before .before .before .before .before .before .before .before .before .before .before .args in
+returns-2 c = λ batch machines links. let p = c .before .before .before .before .before .before .before .before .before .before .before .before .before .before .before .before .before .before .before .before .before .before .pre in
+    let a = c .before .before .before .before .before .before .before .before .before .before .before .before .before .before .before .before .before .before .before .before .before .before .args in
     let m : a .r .ups < length (a .up .now) = omega (arith, p .more, p .fronts .in-up) in
     let q : a .r .ups + 1 ≡ a .r .n = omega (arith, p .more, c .before .before .before .before .before .before .before .before .before .before .before .before .before .if1 .left) in
-    uplink-last _ _ _ _ _ _ batch machines links (c .before .before .before .before .before .before .before .before .before .before .before .before .before .before .number .ensures) m q (c .before .before .before .before .before .before .before .before .start .ensures) (c .if2 .taken)
+    uplink-last _ _ _ _ _ _ batch machines links (number-in 0 (c .before .before .before .before .before .before .before .before .before .before .before .before .before .before .before .body .ensures) (c .before .before .before .before .before .before .before .before .before .before .before .before .before .before .word .ensures)) m q (c .before .before .before .before .before .before .before .before .start .ensures) (c .if2 .taken)
 
 mul-up-2 : tie.Need-mul-up-2
 mul-up-2 c = search needs
 
 slice-write-up-2 : tie.Need-slice-write-up-2
-slice-write-up-2 c = let p = c .before .before .before .before .before .before .before .before .before .before .before .before .before .before .before .before .before .before .before .before .before .pre in simp length-set (omega (arith, p .more, p .fronts .in-up))
+slice-write-up-2 c = let p = c .before .before .before .before .before .before .before .before .before .before .before .before .before .before .before .before .before .before .before .before .before .before .pre in simp length-set (omega (arith, p .more, p .fronts .in-up))
 
 same-length-6 : tie.Need-same-length-6
 same-length-6 c = search needs
@@ -82,11 +82,11 @@ same-length-9 : tie.Need-same-length-9
 same-length-9 c = search needs
 
 returns-3 : tie.Need-returns-3
-returns-3 c = λ batch machines links. let p = c .before .before .before .before .before .before .before .before .before .before .before .before .before .before .before .before .before .before .before .before .before .pre in
-    let a = c .before .before .before .before .before .before .before .before .before .before .before .before .before .before .before .before .before .before .before .before .before .args in
+returns-3 c = λ batch machines links. let p = c .before .before .before .before .before .before .before .before .before .before .before .before .before .before .before .before .before .before .before .before .before .before .pre in
+    let a = c .before .before .before .before .before .before .before .before .before .before .before .before .before .before .before .before .before .before .before .before .before .before .args in
     let m : a .r .ups < length (a .up .now) = omega (arith, p .more, p .fronts .in-up) in
     let q : a .r .ups + 1 ≡ a .r .n = omega (arith, p .more, c .before .before .before .before .before .before .before .before .before .before .before .before .before .if1 .left) in
-    uplink-refused _ _ _ _ _ _ batch machines links (c .before .before .before .before .before .before .before .before .before .before .before .before .before .before .number .ensures) m q (c .before .before .before .before .before .before .before .before .start .ensures) refl (c .if2 .left)
+    uplink-refused _ _ _ _ _ _ batch machines links (number-in 0 (c .before .before .before .before .before .before .before .before .before .before .before .before .before .before .before .body .ensures) (c .before .before .before .before .before .before .before .before .before .before .before .before .before .before .word .ensures)) m q (c .before .before .before .before .before .before .before .before .start .ensures) refl (c .if2 .left)
 
 pub uplink-spec : {M : Type 1} → statement M
 uplink-spec =
@@ -94,8 +94,8 @@ uplink-spec =
     (tie.spec
     mul-old
     slice-read-old
-    add-number
-    number-requires
+    body-requires
+    word-requires
     mul-up
     slice-write-up
     add-if1
