@@ -15,8 +15,8 @@ use Rattle.sitefile.specs.File as file
 use Rattle.sitefile.specs.Next.{readerOf}
 use Rattle.sitefile.specs.Reading.{isWhole, isClosed, placed, asked, dueOf}
 use Rattle.sitefile.specs.declared.Reader.{Reader}
-use Rattle.sitefile.specs.declared.read.Due.{Due}
-use Rattle.sitefile.specs.declared.read.Due.the-variants as due
+use Rattle.sitefile.specs.declared.due.Due.{Due}
+use Rattle.sitefile.specs.declared.due.Due.the-variants as due
 
 -- kinds that go by the tree alone
 pub placed-other : (kind n ups opened : ℕ) → (kind ≡ 1 → ⊥) → (kind ≡ 2 → ⊥) → (kind ≡ 5 → ⊥) → placed kind n ups opened ≡ isWhole n ups

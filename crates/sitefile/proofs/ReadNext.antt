@@ -18,8 +18,8 @@ use Rattle.sitefile.specs.Reading as reading
 use Rattle.sitefile.specs.Reading.{roomOf, went, lengthsFit, countsFit, dueOf, Fronts, UplinkDue, LinkDue, CloseDue, ReportDue}
 use Rattle.sitefile.specs.declared.Reader.{Reader}
 use Rattle.sitefile.specs.declared.Step.the-variants as steps
-use Rattle.sitefile.specs.declared.read.Due.{Due}
-use Rattle.sitefile.specs.declared.read.Due.the-variants as due
+use Rattle.sitefile.specs.declared.due.Due.{Due}
+use Rattle.sitefile.specs.declared.due.Due.the-variants as due
 use Rattle.sitefile.proofs.ReadDue.{Told, told, end-told, stop-told, size-told, uplink-told, link-told, close-told, report-told}
 
 -- the lengths and the counts that fit

@@ -15,8 +15,8 @@ use Rattle.sitefile.specs.File as file
 use Rattle.sitefile.specs.Next.{Room, Went, readOf, laid, wentOf}
 use Rattle.sitefile.specs.declared.Reader.{Reader}
 use Rattle.sitefile.specs.declared.Step.{Step}
-use Rattle.sitefile.specs.declared.read.Due.{Due}
-use Rattle.sitefile.specs.declared.read.Due.the-variants as due
+use Rattle.sitefile.specs.declared.due.Due.{Due}
+use Rattle.sitefile.specs.declared.due.Due.the-variants as due
 
 -- the seven slices as one, and a step with what it leaves there
 abbrev pub roomOf : List ℕ → List ℕ → List ℕ → List ℕ → List ℕ → List ℕ → List ℕ → Room

@@ -1,4 +1,6 @@
 // The site file: its records, what they do to a site, and the text of what the program prints.
+mod due;
+mod kinds;
 pub mod read;
 pub mod record;
 pub mod text;

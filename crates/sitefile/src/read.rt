@@ -1,33 +1,14 @@
-// The reader of the site file.
+// The reader of the site file: one record at a time, over lent slices.
+ghost use mathlib.Core.Path.{_≡_};
+ghost use mathlib.Core.Bool.{_&&_};
+ghost use Rattle.sitefile.specs.Next.{nextOf};
+ghost use Rattle.sitefile.specs.Reading.{roomOf, went, lengthsFit, countsFit};
 use crate::Reader;
 use crate::Step;
-use crate::record;
-use site::Answer;
+use crate::due;
+use crate::due::Due;
+use crate::kinds;
 use site::Site;
-ghost use mathlib.Core.Path.{_≡_};
-ghost use mathlib.Core.Bool.{cond, _&&_};
-ghost use mathlib.Core.List.{List};
-ghost use Prim.Native.Nat.{ℕ, _+_, _≤_};
-ghost use lib.ListN.{length};
-ghost use lib.Dec.{eqb};
-ghost use Rattle.site.specs.Lent.{tablesOf, outcome};
-ghost use Rattle.sitefile.specs.Record.{known};
-ghost use Rattle.sitefile.specs.Next.{Room, nextOf};
-ghost use Rattle.sitefile.specs.Reading.{roomOf, went, lengthsFit, countsFit, isWhole, isClosed, placed, asked, dueOf, sizeWent, uplinkWent, linkWent, closeWent, reportWent, StartDue, startFront, UplinkDue, LinkDue, CloseDue, ReportDue};
-
-// What the file asks for next.
-enum Due {
-    // The file ends as it may.
-    End,
-    // The code and the value of a refusal.
-    Stop(u16, usize),
-    // A record of each kind, known, in place and whole.
-    Size,
-    Uplink,
-    Link,
-    Close,
-    Report,
-}
 
 // Whether the lent slices have the right lengths.
 fn lengths_fit(
@@ -97,264 +78,6 @@ fn fits(
     counts_fit(r.n, r.ups, r.opened)
 }
 
-// Whether there is such a kind of record.
-fn known(kind: u8) -> bool
-    ensures { λ b. ⌜ b ≡ known kind ⌝ }
-{
-    match kind {
-        1..=5 => true,
-        0 | 6..=255 => false,
-    }
-}
-
-// Whether every uplink is read.
-fn whole(n: usize, ups: usize) -> bool
-    ensures { λ b. ⌜ b ≡ isWhole n ups ⌝ }
-{
-    if n == 0 {
-        return false;
-    }
-    ups == n
-}
-
-// Whether every uplink is read, and no links are open.
-fn closed(n: usize, ups: usize, opened: usize) -> bool
-    ensures { λ b. ⌜ b ≡ isClosed n ups opened ⌝ }
-{
-    if !whole(n, ups) {
-        return false;
-    }
-    opened == 0
-}
-
-// Whether a record of this kind may stand here.
-fn in_place(kind: u8, n: usize, ups: usize, opened: usize) -> bool
-    ensures { λ b. ⌜ b ≡ placed kind n ups opened ⌝ }
-{
-    match kind {
-        1 => n == 0,
-        2 => ups < n,
-        5 => closed(n, ups, opened),
-        0 | 3 | 4 | 6..=255 => whole(n, ups),
-    }
-}
-
-// What a record of this kind asks for.
-fn asked(kind: u8) -> Due
-    ensures { λ d. ⌜ d ≡ asked kind ⌝ }
-{
-    match kind {
-        1 => Due::Size,
-        2 => Due::Uplink,
-        3 => Due::Link,
-        4 => Due::Close,
-        0 | 5..=255 => Due::Report,
-    }
-}
-
-// What the file asks for next: its end, a refusal, or a record to do.
-fn look(file: &[u8], r: Reader) -> Due
-    ensures { λ d. ⌜ d ≡ dueOf (now (file .entry)) r ⌝ }
-{
-    let len = file.len();
-    let place = r.place;
-    if len <= place {
-        if closed(r.n, r.ups, r.opened) {
-            return Due::End;
-        }
-        return Due::Stop(10, len);
-    }
-    let kind = file[place];
-    if !known(kind) {
-        return Due::Stop(11, place);
-    }
-    if !in_place(kind, r.n, r.ups, r.opened) {
-        return Due::Stop(12, place);
-    }
-    if len - place - 1 < record::body_len(kind) {
-        return Due::Stop(10, len);
-    }
-    asked(kind)
-}
-
-// Kind 1: the number of machines.
-fn size(file: &[u8], r: Reader) -> Step
-    requires { ⌜ r .place + 3 ≤ length (now file) ⌝ }
-    ensures { λ s. ⌜ ((room : Room) → went s room ≡ sizeWent (now (file .entry)) r room) ⌝ }
-{
-    let place = r.place;
-    let body = record::body(file, place);
-    let n = record::word(body, 0) as usize;
-    if n == 0 {
-        return Step::Refused(1, n);
-    }
-    if Site::MACHINES < n {
-        return Step::Refused(1, n);
-    }
-    Step::Read(Reader {
-        place: place + 3,
-        n,
-        ups: 0,
-        opened: 0,
-    })
-}
-
-// Start over the front parts of the tables.
-fn start(up: &[u16], n: usize, depth: &mut [u16], group: &mut [u16], mark: &mut [u8]) -> Answer
-    requires { ⌜ StartDue n (now up) (now depth) (now group) (now mark) ⌝ }
-    ensures { λ a. ⌜ outcome (a .code) (a .value) (tablesOf (now (depth .exit)) (now (group .exit)) (now (mark .exit)))
-        ≡ startFront n (now (up .entry)) (tablesOf (now (depth .entry)) (now (group .entry)) (now (mark .entry))) ⌝ }
-{
-    Site::start(&up[..n], &mut depth[..n], &mut group[..n], &mut mark[..n])
-}
-
-// Kind 2: the up of the next machine. Start runs after the last; where it refuses, the entry is put back.
-fn uplink(
-    file: &[u8],
-    r: Reader,
-    up: &mut [u16],
-    depth: &mut [u16],
-    group: &mut [u16],
-    mark: &mut [u8],
-) -> Step
-    requires { ⌜ UplinkDue (now file) r (now up) (now depth) (now group) (now mark) ⌝ }
-    ensures { λ s. ⌜ ((batch machines links : List ℕ) → went s (roomOf (now (up .exit)) (now (depth .exit)) (now (group .exit)) (now (mark .exit)) batch machines links)
-        ≡ uplinkWent (now (file .entry)) r (roomOf (now (up .entry)) (now (depth .entry)) (now (group .entry)) (now (mark .entry)) batch machines links)) ⌝ }
-{
-    let place = r.place;
-    let n = r.n;
-    let ups = r.ups;
-    let old = up[ups];
-    let body = record::body(file, place);
-    up[ups] = record::word(body, 0);
-    let next = Reader {
-        place: place + 3,
-        n,
-        ups: ups + 1,
-        opened: 0,
-    };
-    if ups + 1 < n {
-        return Step::Read(next);
-    }
-    let a = start(up, n, depth, group, mark);
-    if a.code == 0 {
-        return Step::Read(next);
-    }
-    up[ups] = old;
-    Step::Refused(a.code, a.value)
-}
-
-// Kind 3: a link, kept until its batch is closed.
-fn link(file: &[u8], r: Reader, batch: &mut [u16]) -> Step
-    requires { ⌜ LinkDue (now file) r (now batch) ⌝ }
-    ensures { λ s. ⌜ ((up depth group mark machines links : List ℕ) → r .ups ≤ length up → went s (roomOf up depth group mark (now (batch .exit)) machines links)
-        ≡ linkWent (now (file .entry)) r (roomOf up depth group mark (now (batch .entry)) machines links)) ⌝ }
-{
-    let place = r.place;
-    let opened = r.opened;
-    if 2 * Site::LINKS <= opened {
-        return Step::Refused(7, 2 * Site::LINKS + 2);
-    }
-    let body = record::body(file, place);
-    batch[opened] = record::word(body, 0);
-    batch[opened + 1] = record::word(body, 1);
-    Step::Read(Reader {
-        place: place + 5,
-        n: r.n,
-        ups: r.ups,
-        opened: opened + 2,
-    })
-}
-
-// The step that an answer of Add comes to.
-fn read_unless(a: Answer, next: Reader) -> Step
-    ensures { λ s. ⌜ s ≡ cond (eqb (a .code) 0) (Step.Read next) (Step.Refused (a .code) (a .value)) ⌝ }
-{
-    if a.code == 0 {
-        return Step::Read(next);
-    }
-    Step::Refused(a.code, a.value)
-}
-
-// The step that an answer of Report comes to.
-fn report_unless(a: Answer, next: Reader) -> Step
-    ensures { λ s. ⌜ s ≡ cond (eqb (a .code) 0) (Step.Report next) (Step.Refused (a .code) (a .value)) ⌝ }
-{
-    if a.code == 0 {
-        return Step::Report(next);
-    }
-    Step::Refused(a.code, a.value)
-}
-
-// Kind 4: the open links are added, over the front parts of the tables.
-fn close(
-    r: Reader,
-    up: &[u16],
-    depth: &mut [u16],
-    group: &mut [u16],
-    mark: &mut [u8],
-    batch: &[u16],
-) -> Step
-    requires { ⌜ CloseDue r (now up) (now depth) (now group) (now mark) (now batch) ⌝ }
-    ensures { λ s. ⌜ ((machines links : List ℕ) → went s (roomOf (now (up .entry)) (now (depth .exit)) (now (group .exit)) (now (mark .exit)) (now (batch .entry)) machines links)
-        ≡ closeWent r (roomOf (now (up .entry)) (now (depth .entry)) (now (group .entry)) (now (mark .entry)) (now (batch .entry)) machines links)) ⌝ }
-{
-    let behind = r.place + 1;
-    let n = r.n;
-    let opened = r.opened;
-    let a = Site::add(
-        &up[..n],
-        &mut depth[..n],
-        &mut group[..n],
-        &mut mark[..n],
-        &batch[..opened],
-    );
-    read_unless(
-        a,
-        Reader {
-            place: behind,
-            n,
-            ups: n,
-            opened: 0,
-        },
-    )
-}
-
-// Kind 5: a report, over the front parts of the tables and the outputs.
-fn report(
-    r: Reader,
-    up: &[u16],
-    depth: &[u16],
-    group: &[u16],
-    mark: &[u8],
-    machines: &mut [u8],
-    links: &mut [u8],
-) -> Step
-    requires { ⌜ ReportDue r (now up) (now depth) (now group) (now mark) (now machines) (now links) ⌝ }
-    ensures { λ s. ⌜ ((batch : List ℕ) → went s (roomOf (now (up .entry)) (now (depth .entry)) (now (group .entry)) (now (mark .entry)) batch (now (machines .exit)) (now (links .exit)))
-        ≡ reportWent r (roomOf (now (up .entry)) (now (depth .entry)) (now (group .entry)) (now (mark .entry)) batch (now (machines .entry)) (now (links .entry)))) ⌝ }
-{
-    let behind = r.place + 1;
-    let n = r.n;
-    let a = Site::report(
-        &up[..n],
-        &depth[..n],
-        &group[..n],
-        &mark[..n],
-        &mut machines[..n],
-        &mut links[..n],
-    );
-    report_unless(
-        a,
-        Reader {
-            place: behind,
-            n,
-            ups: n,
-            opened: 0,
-        },
-    )
-}
-
 // Reads the next record of a site file. A refusal and the end leave every slice as it came.
 pub fn next(
     file: &[u8],
@@ -382,14 +105,14 @@ pub fn next(
     ) {
         return Step::Unfit;
     }
-    let d = look(file, r);
+    let d = due::look(file, r);
     match d {
         Due::End => Step::End,
         Due::Stop(code, value) => Step::Refused(code, value),
-        Due::Size => size(file, r),
-        Due::Uplink => uplink(file, r, up, depth, group, mark),
-        Due::Link => link(file, r, batch),
-        Due::Close => close(r, up, depth, group, mark, batch),
-        Due::Report => report(r, up, depth, group, mark, machines, links),
+        Due::Size => kinds::size(file, r),
+        Due::Uplink => kinds::uplink(file, r, up, depth, group, mark),
+        Due::Link => kinds::link(file, r, batch),
+        Due::Close => kinds::close(r, up, depth, group, mark, batch),
+        Due::Report => kinds::report(r, up, depth, group, mark, machines, links),
     }
 }

@@ -2,8 +2,8 @@ use mathlib.Core.Path.{sym, _∙_}
 use lib.Seq.{length-take-le}
 use Rattle.sitefile.proofs.ReadCalls.{close-done}
 use borrow.Author.Needs.{needs}
-use Rattle.sitefile.proofs.read.close.Statement.{statement}
-use Rattle.sitefile.proofs.read.close.Tie as tie
+use Rattle.sitefile.proofs.kinds.close.Statement.{statement}
+use Rattle.sitefile.proofs.kinds.close.Tie as tie
 
 add-behind : tie.Need-add-behind
 add-behind c = search needs

@@ -1,8 +1,8 @@
 use borrow.Author.Tests.{lt-ltb}
 use Rattle.sitefile.specs.Reading.{isWhole}
 use native.Mathlib.Omega.{arith}
-use Rattle.sitefile.proofs.read.whole.Statement.{statement}
-use Rattle.sitefile.proofs.read.whole.Tie as tie
+use Rattle.sitefile.proofs.due.whole.Statement.{statement}
+use Rattle.sitefile.proofs.due.whole.Tie as tie
 
 returns : tie.Need-returns
 unfolding isWhole

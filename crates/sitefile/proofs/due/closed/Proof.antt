@@ -2,8 +2,8 @@ use Rattle.sitefile.specs.Reading.{isClosed}
 use borrow.Author.Tests.{not-true, not-false}
 use mathlib.Core.Path.{sym, _∙_}
 use borrow.Author.Needs.{needs}
-use Rattle.sitefile.proofs.read.closed.Statement.{statement}
-use Rattle.sitefile.proofs.read.closed.Tie as tie
+use Rattle.sitefile.proofs.due.closed.Statement.{statement}
+use Rattle.sitefile.proofs.due.closed.Tie as tie
 
 whole-requires : tie.Need-whole-requires
 whole-requires c κs = search needs

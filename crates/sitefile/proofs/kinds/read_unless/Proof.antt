@@ -1,6 +1,6 @@
 use borrow.Author.Tests.{eq-eqb, ne-eqb}
-use Rattle.sitefile.proofs.read.read_unless.Statement.{statement}
-use Rattle.sitefile.proofs.read.read_unless.Tie as tie
+use Rattle.sitefile.proofs.kinds.read_unless.Statement.{statement}
+use Rattle.sitefile.proofs.kinds.read_unless.Tie as tie
 
 returns : tie.Need-returns
 returns c = rw (eq-eqb _ _ (c .if1 .taken))

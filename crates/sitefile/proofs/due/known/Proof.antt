@@ -1,7 +1,7 @@
 use borrow.Author.Tests.{le-leb, lt-leb}
 use native.Mathlib.Omega.{arith}
-use Rattle.sitefile.proofs.read.known.Statement.{statement}
-use Rattle.sitefile.proofs.read.known.Tie as tie
+use Rattle.sitefile.proofs.due.known.Statement.{statement}
+use Rattle.sitefile.proofs.due.known.Tie as tie
 
 returns : tie.Need-returns
 returns c = let k = c .before .before .args .kind in rw (le-leb 1 k (omega (arith, c .before .match .rest .1)), le-leb k 5 (omega arith))

@@ -1,7 +1,7 @@
 use borrow.Author.Tests.{ne-eqb}
 use Rattle.sitefile.specs.Reading.{asked}
-use Rattle.sitefile.proofs.read.asked.Statement.{statement}
-use Rattle.sitefile.proofs.read.asked.Tie as tie
+use Rattle.sitefile.proofs.due.asked.Statement.{statement}
+use Rattle.sitefile.proofs.due.asked.Tie as tie
 
 returns : tie.Need-returns
 unfolding asked

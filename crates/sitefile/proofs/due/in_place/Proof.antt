@@ -3,8 +3,8 @@ use mathlib.Core.Path.{sym, _∙_}
 use Rattle.sitefile.specs.Reading.{placed}
 use Rattle.sitefile.proofs.ReadDue.{placed-other}
 use borrow.Author.Needs.{needs}
-use Rattle.sitefile.proofs.read.in_place.Statement.{statement}
-use Rattle.sitefile.proofs.read.in_place.Tie as tie
+use Rattle.sitefile.proofs.due.in_place.Statement.{statement}
+use Rattle.sitefile.proofs.due.in_place.Tie as tie
 
 closed-requires : tie.Need-closed-requires
 closed-requires c κs = search needs

@@ -5,8 +5,8 @@ use mathlib.Core.Path.{_≡_, refl}
 use lib.ListN.{length}
 use native.Mathlib.Omega.{arith}
 use borrow.Author.Needs.{needs}
-use Rattle.sitefile.proofs.read.uplink.Statement.{statement}
-use Rattle.sitefile.proofs.read.uplink.Tie as tie
+use Rattle.sitefile.proofs.kinds.uplink.Statement.{statement}
+use Rattle.sitefile.proofs.kinds.uplink.Tie as tie
 
 mul-old : tie.Need-mul-old
 mul-old c = search needs

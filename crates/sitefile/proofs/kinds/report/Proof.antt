@@ -2,8 +2,8 @@ use mathlib.Core.Path.{sym, _∙_}
 use lib.Seq.{length-take-le}
 use Rattle.sitefile.proofs.ReadCalls.{report-done}
 use borrow.Author.Needs.{needs}
-use Rattle.sitefile.proofs.read.report.Statement.{statement}
-use Rattle.sitefile.proofs.read.report.Tie as tie
+use Rattle.sitefile.proofs.kinds.report.Statement.{statement}
+use Rattle.sitefile.proofs.kinds.report.Tie as tie
 
 add-behind : tie.Need-add-behind
 add-behind c = search needs

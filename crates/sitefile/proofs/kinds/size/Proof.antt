@@ -1,7 +1,7 @@
 use Rattle.sitefile.proofs.ReadKinds.{number-in, size-none, size-many, size-read}
 use borrow.Author.Needs.{needs}
-use Rattle.sitefile.proofs.read.size.Statement.{statement}
-use Rattle.sitefile.proofs.read.size.Tie as tie
+use Rattle.sitefile.proofs.kinds.size.Statement.{statement}
+use Rattle.sitefile.proofs.kinds.size.Tie as tie
 
 body-requires : tie.Need-body-requires
 body-requires c κs = search needs

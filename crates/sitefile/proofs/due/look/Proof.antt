@@ -1,7 +1,7 @@
 use Rattle.sitefile.proofs.ReadDue.{look-end, look-cut, look-unknown, look-misplaced, look-short, look-whole}
 use borrow.Author.Needs.{needs}
-use Rattle.sitefile.proofs.read.look.Statement.{statement}
-use Rattle.sitefile.proofs.read.look.Tie as tie
+use Rattle.sitefile.proofs.due.look.Statement.{statement}
+use Rattle.sitefile.proofs.due.look.Tie as tie
 
 closed-requires : tie.Need-closed-requires
 closed-requires c κs = search needs

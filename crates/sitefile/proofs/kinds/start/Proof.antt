@@ -2,8 +2,8 @@ use mathlib.Core.Path.{sym, _∙_}
 use lib.Seq.{length-take-le}
 use Rattle.sitefile.proofs.ReadCalls.{start-front}
 use borrow.Author.Needs.{needs}
-use Rattle.sitefile.proofs.read.start.Statement.{statement}
-use Rattle.sitefile.proofs.read.start.Tie as tie
+use Rattle.sitefile.proofs.kinds.start.Statement.{statement}
+use Rattle.sitefile.proofs.kinds.start.Tie as tie
 
 slice-aggregate-start : tie.Need-slice-aggregate-start
 slice-aggregate-start c = sym (length-take-le _ _ (c .before .before .before .before .before .pre .fronts .in-up))

@@ -2,8 +2,8 @@ use lib.ListN.{length-set}
 use Rattle.sitefile.proofs.ReadKinds.{number-in, link-full, link-read}
 use native.Mathlib.Omega.{arith}
 use borrow.Author.Needs.{needs}
-use Rattle.sitefile.proofs.read.link.Statement.{statement}
-use Rattle.sitefile.proofs.read.link.Tie as tie
+use Rattle.sitefile.proofs.kinds.link.Statement.{statement}
+use Rattle.sitefile.proofs.kinds.link.Tie as tie
 
 mul-if1 : tie.Need-mul-if1
 mul-if1 c = search needs

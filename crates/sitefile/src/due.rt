@@ -1,0 +1,100 @@
+// What a site file asks for next: its end, a refusal, or a record that is known, in place and whole.
+ghost use mathlib.Core.Path.{_≡_};
+ghost use Rattle.sitefile.specs.Record.{known};
+ghost use Rattle.sitefile.specs.Reading.{isWhole, isClosed, placed, asked, dueOf};
+use crate::Reader;
+use crate::record;
+
+// What the file asks for next.
+pub enum Due {
+    // The file ends as it may.
+    End,
+    // The code and the value of a refusal.
+    Stop(u16, usize),
+    // A record of each kind, known, in place and whole.
+    Size,
+    Uplink,
+    Link,
+    Close,
+    Report,
+}
+
+// Whether there is such a kind of record.
+fn known(kind: u8) -> bool
+    ensures { λ b. ⌜ b ≡ known kind ⌝ }
+{
+    match kind {
+        1..=5 => true,
+        0 | 6..=255 => false,
+    }
+}
+
+// Whether every uplink is read.
+fn whole(n: usize, ups: usize) -> bool
+    ensures { λ b. ⌜ b ≡ isWhole n ups ⌝ }
+{
+    if n == 0 {
+        return false;
+    }
+    ups == n
+}
+
+// Whether every uplink is read, and no links are open.
+fn closed(n: usize, ups: usize, opened: usize) -> bool
+    ensures { λ b. ⌜ b ≡ isClosed n ups opened ⌝ }
+{
+    if !whole(n, ups) {
+        return false;
+    }
+    opened == 0
+}
+
+// Whether a record of this kind may stand here.
+fn in_place(kind: u8, n: usize, ups: usize, opened: usize) -> bool
+    ensures { λ b. ⌜ b ≡ placed kind n ups opened ⌝ }
+{
+    match kind {
+        1 => n == 0,
+        2 => ups < n,
+        5 => closed(n, ups, opened),
+        0 | 3 | 4 | 6..=255 => whole(n, ups),
+    }
+}
+
+// What a record of this kind asks for.
+fn asked(kind: u8) -> Due
+    ensures { λ d. ⌜ d ≡ asked kind ⌝ }
+{
+    match kind {
+        1 => Due::Size,
+        2 => Due::Uplink,
+        3 => Due::Link,
+        4 => Due::Close,
+        0 | 5..=255 => Due::Report,
+    }
+}
+
+// What the file asks for next: its end, a refusal, or a record to do.
+pub fn look(file: &[u8], r: Reader) -> Due
+    ensures { λ d. ⌜ d ≡ dueOf (now (file .entry)) r ⌝ }
+{
+    let len = file.len();
+    let place = r.place;
+    if len <= place {
+        if closed(r.n, r.ups, r.opened) {
+            return Due::End;
+        }
+        return Due::Stop(10, len);
+    }
+    let kind = file[place];
+    if !known(kind) {
+        return Due::Stop(11, place);
+    }
+    if !in_place(kind, r.n, r.ups, r.opened) {
+        return Due::Stop(12, place);
+    }
+    if len - place - 1 < record::body_len(kind) {
+        return Due::Stop(10, len);
+    }
+    asked(kind)
+}
