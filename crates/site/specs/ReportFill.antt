@@ -1,4 +1,5 @@
 -- What the report asks of its slices, the tests that it makes of them, and how it fills its two outputs.
+-- These are the contracts of private functions: the public calls do not cite them, so nothing here has to be believed.
 use mathlib.Core.Path.{_≡_}
 use mathlib.Core.Bool.{Bool, _&&_, not}
 use mathlib.Core.List.{List}

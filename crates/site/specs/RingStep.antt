@@ -1,4 +1,5 @@
 -- The ring step: what a batch of links finds and what it leaves, and before that what its parts do, a climb and one link.
+-- These are the contracts of private functions: the public calls do not cite them, so nothing here has to be believed.
 use mathlib.Core.Path.{_≡_}
 use mathlib.Core.Bool.{cond, _||_, _&&_, not}
 use mathlib.Core.List.{List}

@@ -1,4 +1,5 @@
 -- What the check of the rules asks of its slices.
+-- These are the contracts of private functions: the public calls do not cite them, so nothing here has to be believed.
 use mathlib.Core.Path.{_≡_}
 use mathlib.Core.List.{List}
 use Prim.Native.Nat.{ℕ, _<_}

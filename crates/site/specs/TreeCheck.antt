@@ -1,4 +1,5 @@
 -- What the tree check's parts are to answer, and the table of known depths that they fill.
+-- These are the contracts of private functions: the public calls do not cite them, so nothing here has to be believed.
 use mathlib.Core.Path.{_≡_}
 use mathlib.Core.Bool.{_&&_}
 use mathlib.Core.List.{List, [], _∷_}

@@ -1,4 +1,5 @@
 -- What the parts of the reader are to answer and to leave, over the reader's numbers and the lent slices.
+-- These are the contracts of private functions: the public calls do not cite them, so nothing here has to be believed.
 use mathlib.Core.Path.{_≡_}
 use mathlib.Core.Bool.{Bool, cond, _&&_, not}
 use mathlib.Core.List.{List}

@@ -1,3 +1,4 @@
+-- `answer_all` is safe and ends: every slice keeps its length, and each turn leaves one file less.
 use mathlib.Core.Path.{_≡_}
 use lib.ListN.{length}
 use Rattle.printer.proofs.Lengths.{Kept}

@@ -1,3 +1,4 @@
+-- `answer_one` is safe: the part is no longer than what was read.
 use mathlib.Core.Path.{sym}
 use lib.Seq.{length-take-le}
 use native.Mathlib.Omega.{arith}

@@ -1,3 +1,4 @@
+-- `read_next` is safe: the part is no longer than the room.
 use mathlib.Core.Path.{sym}
 use lib.Seq.{length-take-le}
 use native.Mathlib.Omega.{arith}

@@ -1,3 +1,4 @@
+-- `print_file` is safe and ends: every slice keeps its length through each call, and each turn leaves one record less.
 use mathlib.Core.Path.{_∙_}
 use Rattle.printer.proofs.Lengths.{Kept}
 use borrow.Author.Needs.{needs}

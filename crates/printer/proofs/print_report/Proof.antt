@@ -1,3 +1,4 @@
+-- `print_report` is safe: the parts are no longer than their slices.
 use mathlib.Core.Path.{sym}
 use lib.Seq.{length-take-le}
 use native.Mathlib.Omega.{arith}

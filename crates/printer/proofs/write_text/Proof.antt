@@ -1,3 +1,4 @@
+-- `write_text` is safe: the part is no longer than the text.
 use mathlib.Core.Path.{sym}
 use lib.Seq.{length-take-le}
 use native.Mathlib.Omega.{arith}

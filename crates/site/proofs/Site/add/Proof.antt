@@ -1,3 +1,4 @@
+-- `Site::add`: each check that refuses is the answer; once all have passed, the tables are those of a history and the batch is applied.
 use Rattle.site.proofs.Answers.{sizes-of, told}
 use Rattle.site.proofs.Adding.{add-lengths, add-tables, add-batch, add-ready, add-done}
 use native.Mathlib.Omega.{arith}

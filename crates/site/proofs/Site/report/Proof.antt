@@ -1,3 +1,4 @@
+-- `Site::report`: each check that refuses is the answer; once all have passed, the outputs are filled.
 use Rattle.site.proofs.Answers.{sizes-of, told}
 use Rattle.site.proofs.Reporting.{report-lengths, report-outputs, report-tables, report-ready, report-done}
 use native.Mathlib.Omega.{arith}

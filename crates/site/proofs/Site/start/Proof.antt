@@ -1,3 +1,4 @@
+-- `Site::start`: each check that refuses is the answer; once all have passed, the depths come out of the local array.
 use mathlib.Core.Path.{sym, ap, _∙_}
 use Rattle.site.specs.Check.{verdictOf}
 use lib.ListN.{length, drop, replicate}

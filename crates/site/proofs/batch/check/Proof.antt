@@ -1,3 +1,4 @@
+-- `batch::check`: the length, then the links.
 use borrow.Author.Needs.{needs}
 use borrow.Author.Tests.{not-true, not-false}
 use Rattle.site.proofs.Batches.{too-long, by-ends}

@@ -1,3 +1,4 @@
+-- `batch::ends`: the invariant: every link below i passed, so the verdict is that of the links from i on.
 use mathlib.Core.Path.{ap}
 use Prim.Native.Nat.{_*_, _-_}
 use native.Mathlib.Omega.{arith}

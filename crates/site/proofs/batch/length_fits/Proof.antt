@@ -1,3 +1,4 @@
+-- `batch::length_fits`: two tests.
 use borrow.Author.Needs.{needs}
 use borrow.Author.Tests.{eq-eqb, ne-eqb}
 use Rattle.site.proofs.batch.length_fits.Statement.{statement}

@@ -1,3 +1,4 @@
+-- `batch::link`: the tests in their order, 8 before 9.
 use borrow.Author.Tests.{le-leb, lt-leb, eq-eqb, ne-eqb}
 use Rattle.tables.specs.Batch.{endsVerdict}
 use Rattle.site.proofs.batch.link.Statement.{statement}

@@ -1,3 +1,4 @@
+-- `report::carried_member`: the group's name, then the mark by its range.
 use borrow.Author.Needs.{needs}
 use borrow.Author.Tests.{eq-eqb, ne-eqb}
 use Rattle.site.proofs.report.carried_member.Statement.{statement}

@@ -1,3 +1,4 @@
+-- `report::child`: the hub is no child; else one test.
 use borrow.Author.Needs.{needs}
 use Rattle.tables.specs.Report.{child}
 use Rattle.site.proofs.Keeping.{at-hub, off-hub}

@@ -1,3 +1,4 @@
+-- `report::count_ends`: a count; the invariant: n of the machines below v pass.
 use Prim.Native.Nat.{_-_}
 use native.Mathlib.Omega.{arith}
 use lib.ListN.{length}

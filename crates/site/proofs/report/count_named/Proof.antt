@@ -1,3 +1,4 @@
+-- `report::count_named`: a count; the invariant: n of the bytes below w are not 0.
 use mathlib.Core.Bool.{not}
 use mathlib.Core.Path.{refl}
 use Prim.Native.Nat.{_-_}

@@ -1,3 +1,4 @@
+-- `report::ends`: the tests in turn.
 use borrow.Author.Needs.{needs}
 use borrow.Author.Tests.{eq-eqb, ne-eqb}
 use Rattle.tables.specs.Report.{ends}

@@ -1,3 +1,4 @@
+-- `report::ends_lone`: a search; the invariant: no machine below v passes the test.
 use Prim.Native.Nat.{_≤_, _-_}
 use native.Mathlib.Omega.{arith}
 use lib.ListN.{length}

@@ -1,3 +1,4 @@
+-- `report::fill`: both outputs by their rules, and the count of the first.
 use mathlib.Core.Path.{ap, _∙_}
 use borrow.Author.Needs.{needs}
 use Rattle.tables.specs.Outcome.{named}

@@ -1,3 +1,4 @@
+-- `report::fill_links`: the invariant: the bytes below v are those of the definition, for every up table with this hub.
 use mathlib.Core.List.{List}
 use mathlib.Core.Path.{_≡_, _∙_}
 use Prim.Native.Nat.{ℕ, _≤_, _-_}

@@ -1,3 +1,4 @@
+-- `report::fill_machines`: the invariant: the bytes below w are those of the definition, whatever the depths are.
 use mathlib.Core.List.{List}
 use mathlib.Core.Path.{_≡_}
 use Prim.Native.Nat.{ℕ, _≤_, _-_}

@@ -1,3 +1,4 @@
+-- `report::group_carried`: a search; the invariant: no machine below m passes the test.
 use Prim.Native.Nat.{_≤_, _-_}
 use native.Mathlib.Omega.{arith}
 use lib.ListN.{length}

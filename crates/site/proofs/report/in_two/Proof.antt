@@ -1,3 +1,4 @@
+-- `report::in_two`: the tests in turn.
 use borrow.Author.Needs.{needs}
 use Rattle.site.proofs.Keeping.{stop, on}
 use Rattle.site.proofs.report.in_two.Statement.{statement}

@@ -1,3 +1,4 @@
+-- `report::link_byte`: the hub has none; else the mark by its range.
 use borrow.Author.Needs.{needs}
 use borrow.Author.Tests.{eq-eqb, ne-eqb}
 use Rattle.tables.specs.Report.{linkByte}

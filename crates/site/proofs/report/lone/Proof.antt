@@ -1,3 +1,4 @@
+-- `report::lone`: a search, then a count.
 use mathlib.Core.Path.{ap}
 use lib.Dec.{leb}
 use borrow.Author.Needs.{needs}

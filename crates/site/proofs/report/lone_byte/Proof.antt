@@ -1,3 +1,4 @@
+-- `report::lone_byte`: one test.
 use borrow.Author.Needs.{needs}
 use Rattle.site.proofs.report.lone_byte.Statement.{statement}
 use Rattle.site.proofs.report.lone_byte.Tie as tie

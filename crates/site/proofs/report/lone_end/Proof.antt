@@ -1,3 +1,4 @@
+-- `report::lone_end`: the tests in turn, the mark by its range.
 use mathlib.Core.Path.{sym}
 use borrow.Author.Needs.{needs}
 use borrow.Author.Tests.{eq-eqb, ne-eqb}

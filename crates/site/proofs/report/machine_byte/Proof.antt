@@ -1,3 +1,4 @@
+-- `report::machine_byte`: the hub has only line 2, the others only line 1, before the last two lines.
 use borrow.Author.Needs.{needs}
 use Rattle.tables.specs.Report.{machineByte}
 use Rattle.site.proofs.Keeping.{at-hub, off-hub}

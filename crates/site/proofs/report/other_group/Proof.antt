@@ -1,3 +1,4 @@
+-- `report::other_group`: a search; the invariant: no machine below d passes the test.
 use Prim.Native.Nat.{_≤_, _-_}
 use native.Mathlib.Omega.{arith}
 use lib.ListN.{length}

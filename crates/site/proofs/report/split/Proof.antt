@@ -1,3 +1,4 @@
+-- `report::split`: a search; the invariant: no machine below c passes the test.
 use Prim.Native.Nat.{_≤_, _-_}
 use native.Mathlib.Omega.{arith}
 use lib.ListN.{length}

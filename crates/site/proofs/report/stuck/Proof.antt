@@ -1,3 +1,4 @@
+-- `report::stuck`: a search; the invariant: no machine below c passes the test.
 use mathlib.Core.List.{List}
 use Prim.Native.Nat.{ℕ, _≤_, _-_}
 use native.Mathlib.Omega.{arith}

@@ -1,3 +1,4 @@
+-- `report::stuck_child`: a child whose group the search finds no carried member of.
 use borrow.Author.Needs.{needs}
 use Rattle.tables.specs.Report.{groupCarried}
 use Rattle.site.proofs.Keeping.{stop, on}

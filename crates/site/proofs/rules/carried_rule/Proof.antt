@@ -1,3 +1,4 @@
+-- `rules::carried_rule`: only a mark of 2 asks for anything, and then of the machine above.
 use mathlib.Core.Bool.{not}
 use mathlib.Core.Path.{ap}
 use borrow.Author.Needs.{needs}

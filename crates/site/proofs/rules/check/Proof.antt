@@ -1,3 +1,4 @@
+-- `rules::check`: a search; the invariant: no machine below v breaks a rule.
 use mathlib.Core.Path.{sym}
 use Prim.Native.Nat.{_≤_, _-_}
 use native.Mathlib.Omega.{arith}

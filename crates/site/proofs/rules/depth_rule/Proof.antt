@@ -1,3 +1,4 @@
+-- `rules::depth_rule`: the hub, or one more than the depth above.
 use native.Mathlib.Numerals.{add-one}
 use native.Mathlib.Omega.{arith}
 use borrow.Author.Needs.{needs}

@@ -1,3 +1,4 @@
+-- `rules::group_rule`: a name over v breaks the rule, be it a machine or not; any other is a machine and may be an index.
 use borrow.Author.Needs.{needs}
 use borrow.Author.Tests.{eq-eqb, ne-eqb}
 use Rattle.tables.specs.Rules.{groupRule}

@@ -1,3 +1,4 @@
+-- `rules::hub_rule`: only the hub is asked; its mark by its range.
 use borrow.Author.Needs.{needs}
 use borrow.Author.Tests.{eq-eqb, ne-eqb}
 use Rattle.tables.specs.Rules.{hubRule}

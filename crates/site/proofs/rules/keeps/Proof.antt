@@ -1,3 +1,4 @@
+-- `rules::keeps`: the six rules in turn, up to the first that is broken.
 use borrow.Author.Needs.{needs}
 use Rattle.tables.specs.Rules.{keeps}
 use Rattle.site.proofs.Keeping.{beside, stop, on}

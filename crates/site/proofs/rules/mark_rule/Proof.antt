@@ -1,3 +1,4 @@
+-- `rules::mark_rule`: the mark by its range.
 use native.Mathlib.Omega.{arith}
 use borrow.Author.Needs.{needs}
 use borrow.Author.Tests.{le-leb, lt-leb}

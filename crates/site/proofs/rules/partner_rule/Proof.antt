@@ -1,3 +1,4 @@
+-- `rules::partner_rule`: a name that is no machine has no mark, which reads as 0.
 use lib.ListN.{List·getD-eq-default}
 use borrow.Author.Needs.{needs}
 use borrow.Author.Tests.{eq-eqb}

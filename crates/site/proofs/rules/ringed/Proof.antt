@@ -1,3 +1,4 @@
+-- `rules::ringed`: the mark by its range.
 use native.Mathlib.Omega.{arith}
 use borrow.Author.Tests.{le-leb}
 use Rattle.site.proofs.rules.ringed.Statement.{statement}

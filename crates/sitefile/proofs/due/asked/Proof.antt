@@ -1,3 +1,4 @@
+-- `due::asked`: case by case of the kind.
 use borrow.Author.Tests.{ne-eqb}
 use Rattle.sitefile.specs.Reading.{asked}
 use Rattle.sitefile.proofs.due.asked.Statement.{statement}

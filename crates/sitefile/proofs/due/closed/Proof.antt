@@ -1,3 +1,4 @@
+-- `due::closed`: two tests.
 use Rattle.sitefile.specs.Reading.{isClosed}
 use borrow.Author.Tests.{not-true, not-false}
 use mathlib.Core.Path.{sym, _∙_}

@@ -1,3 +1,4 @@
+-- `due::in_place`: case by case of the kind.
 use mathlib.Core.Logic.{⊎-elim}
 use mathlib.Core.Path.{sym, _∙_}
 use Rattle.sitefile.specs.Reading.{placed}

@@ -1,3 +1,4 @@
+-- `due::known`: the ranges are those of the definition.
 use borrow.Author.Tests.{le-leb, lt-leb}
 use native.Mathlib.Omega.{arith}
 use Rattle.sitefile.proofs.due.known.Statement.{statement}

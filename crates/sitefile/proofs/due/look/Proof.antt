@@ -1,3 +1,4 @@
+-- `due::look`: the tests in the order of the definition: the end, 11, 12, 10, then the kind.
 use Rattle.sitefile.proofs.ReadDue.{look-end, look-cut, look-unknown, look-misplaced, look-short, look-whole}
 use borrow.Author.Needs.{needs}
 use Rattle.sitefile.proofs.due.look.Statement.{statement}

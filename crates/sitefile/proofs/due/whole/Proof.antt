@@ -1,3 +1,4 @@
+-- `due::whole`: two tests.
 use borrow.Author.Tests.{lt-ltb}
 use Rattle.sitefile.specs.Reading.{isWhole}
 use native.Mathlib.Omega.{arith}

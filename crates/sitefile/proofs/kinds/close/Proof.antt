@@ -1,3 +1,4 @@
+-- `kinds::close`: Add over the front parts of the tables is what `close` of a file says, and the parts are laid back over their slices.
 use mathlib.Core.Path.{sym, _∙_}
 use lib.Seq.{length-take-le}
 use Rattle.sitefile.proofs.ReadCalls.{close-done}

@@ -1,3 +1,4 @@
+-- `kinds::link`: two numbers more at the end of those that are open, or the refusal of one link too many.
 use lib.ListN.{length-set}
 use Rattle.sitefile.proofs.ReadKinds.{number-in, link-full, link-read}
 use native.Mathlib.Omega.{arith}

@@ -1,3 +1,4 @@
+-- `kinds::read_unless`: the code tells which step it is.
 use borrow.Author.Tests.{eq-eqb, ne-eqb}
 use Rattle.sitefile.proofs.kinds.read_unless.Statement.{statement}
 use Rattle.sitefile.proofs.kinds.read_unless.Tie as tie

@@ -1,3 +1,4 @@
+-- `kinds::report`: Report into the front parts of the outputs, laid back over them.
 use mathlib.Core.Path.{sym, _∙_}
 use lib.Seq.{length-take-le}
 use Rattle.sitefile.proofs.ReadCalls.{report-done}

@@ -1,3 +1,4 @@
+-- `kinds::report_unless`: the code tells which step it is.
 use borrow.Author.Tests.{eq-eqb, ne-eqb}
 use Rattle.sitefile.proofs.kinds.report_unless.Statement.{statement}
 use Rattle.sitefile.proofs.kinds.report_unless.Tie as tie

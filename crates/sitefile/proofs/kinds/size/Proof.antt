@@ -1,3 +1,4 @@
+-- `kinds::size`: the number of the body, held to the limit, is what `size` of a file says.
 use Rattle.sitefile.proofs.ReadKinds.{number-in, size-none, size-many, size-read}
 use borrow.Author.Needs.{needs}
 use Rattle.sitefile.proofs.kinds.size.Statement.{statement}

@@ -1,3 +1,4 @@
+-- `kinds::start`: Start over front parts; what lies behind them stays.
 use mathlib.Core.Path.{sym, _∙_}
 use lib.Seq.{length-take-le}
 use Rattle.sitefile.proofs.ReadCalls.{start-front}

@@ -1,3 +1,4 @@
+-- `kinds::uplink`: one uplink more; after the last the tree's verdict decides, and a refusal has the old entry put back.
 use lib.ListN.{length-set}
 use Rattle.sitefile.proofs.ReadKinds.{number-in, uplink-more, uplink-last, uplink-refused}
 use Prim.Native.Nat.{_<_, _+_}

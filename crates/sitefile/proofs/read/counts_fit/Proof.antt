@@ -1,3 +1,4 @@
+-- `read::counts_fit`: each test decides one of the bounds.
 use borrow.Author.Tests.{le-leb, lt-leb}
 use Rattle.sitefile.specs.Reading.{countsFit}
 use borrow.Author.Needs.{needs}

@@ -1,3 +1,4 @@
+-- `read::fits`: the lengths, then the counts.
 use mathlib.Core.Path.{sym, _∙_}
 use borrow.Author.Tests.{not-true, not-false}
 use borrow.Author.Needs.{needs}

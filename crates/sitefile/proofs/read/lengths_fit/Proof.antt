@@ -1,3 +1,4 @@
+-- `read::lengths_fit`: each test decides one of the lengths.
 use borrow.Author.Tests.{eq-eqb, ne-eqb}
 use Rattle.sitefile.specs.Reading.{lengthsFit}
 use borrow.Author.Needs.{needs}

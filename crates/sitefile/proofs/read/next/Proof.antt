@@ -1,3 +1,4 @@
+-- `read::next`: slices that do not fit are answered at once; else what is due is one case of the file's step, and that case's function does it.
 use Rattle.sitefile.proofs.ReadNext.{next-unfit, next-end, next-stop, size-due, next-size, uplink-due, next-uplink, link-due, next-link, close-due, next-close, report-due, next-report, ups-inside}
 use native.Mathlib.Omega.{arith}
 use borrow.Author.Needs.{needs}
