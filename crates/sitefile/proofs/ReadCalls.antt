@@ -21,9 +21,9 @@ use Rattle.tables.proofs.Verdicts.{checks-one}
 use Rattle.site.specs.Lent.{tablesOf, bytesOf, outcome}
 use Rattle.sitefile.specs.Record.{bodyLength}
 use Rattle.sitefile.specs.File as file
-use Rattle.sitefile.specs.Next.{Room, readOf, holding, laid}
+use Rattle.sitefile.specs.Next.{Room, readOf, holding, laid, roomOf, went}
 use Rattle.sitefile.specs.Reading as reading
-use Rattle.sitefile.specs.Reading.{roomOf, went, Fronts}
+use Rattle.sitefile.specs.Reading.{Fronts}
 use Rattle.sitefile.specs.declared.Reader.{Reader}
 use Rattle.sitefile.specs.declared.Step.{Step}
 use Rattle.sitefile.specs.declared.Step.the-variants as steps

@@ -18,9 +18,8 @@ use Rattle.tables.specs.Outcome.{answer}
 use Rattle.site.specs.Lent.{tablesOf, outcome}
 use Rattle.sitefile.specs.Record.{bodyLength, bodyOf, word}
 use Rattle.sitefile.specs.File as file
-use Rattle.sitefile.specs.Next.{Room, readOf, holding, laid}
+use Rattle.sitefile.specs.Next.{Room, readOf, holding, laid, roomOf, went}
 use Rattle.sitefile.specs.Reading as reading
-use Rattle.sitefile.specs.Reading.{roomOf, went}
 use Rattle.sitefile.specs.declared.Reader.{Reader}
 use Rattle.sitefile.specs.declared.Step.the-variants as steps
 use Rattle.tables.proofs.Codes.{tree-numbered}

@@ -13,9 +13,9 @@ use Rattle.plain.proofs.Says.{Says, says-and, says-eq, says-le}
 use Rattle.tables.specs.Tree.{mostMachines}
 use Rattle.tables.specs.Batch.{mostLinks}
 use Rattle.sitefile.specs.File as file
-use Rattle.sitefile.specs.Next.{Room, Went, fits, readOf, readerOf, wentOf, nextOf}
+use Rattle.sitefile.specs.Next.{Room, Went, fits, readOf, readerOf, wentOf, nextOf, roomOf, went}
 use Rattle.sitefile.specs.Reading as reading
-use Rattle.sitefile.specs.Reading.{roomOf, went, lengthsFit, countsFit, dueOf, Fronts, UplinkDue, LinkDue, CloseDue, ReportDue}
+use Rattle.sitefile.specs.Reading.{lengthsFit, countsFit, dueOf, Fronts, UplinkDue, LinkDue, CloseDue, ReportDue}
 use Rattle.sitefile.specs.declared.Reader.{Reader}
 use Rattle.sitefile.specs.declared.Step.the-variants as steps
 use Rattle.sitefile.specs.declared.due.Due.{Due}

@@ -9,7 +9,7 @@ use Rattle.tables.specs.Batch.{mostLinks}
 use Rattle.sitefile.specs.File as file
 use Rattle.sitefile.specs.declared.Reader.{Reader}
 use Rattle.sitefile.specs.declared.Step.{Step}
-use Rattle.sitefile.specs.declared.Step.the-variants as went
+use Rattle.sitefile.specs.declared.Step.the-variants as steps
 
 -- the lent slices: one entry a machine, but the batch has the numbers of a whole batch
 pub record Room : Type 0 where
@@ -20,6 +20,10 @@ pub record Room : Type 0 where
   pub batch : List ℕ
   pub machines : List ℕ
   pub links : List ℕ
+
+-- the seven slices as one
+abbrev pub roomOf : List ℕ → List ℕ → List ℕ → List ℕ → List ℕ → List ℕ → List ℕ → Room
+roomOf up depth group mark batch machines links = record { up = up; depth = depth; group = group; mark = mark; batch = batch; machines = machines; links = links }
 
 abbrev pub roomy : List ℕ → Bool
 roomy slice = eqb (length slice) mostMachines
@@ -63,14 +67,17 @@ pub record Went : Type 0 where
   pub step : Step
   pub room : Room
 
+abbrev pub went : Step → Room → Went
+went s room = record { step = s; room = room }
+
 -- a refusal and the end leave every slice as it came
 abbrev pub wentOf : file.Next → Room → Went
-wentOf (file.on r) room = record { step = went.Read (readerOf r); room = holding r room }
+wentOf (file.on r) room = record { step = steps.Read (readerOf r); room = holding r room }
 wentOf (file.reports r o) room =
     let h = holding r room in
-    record { step = went.Report (readerOf r); room = record { up = h .up; depth = h .depth; group = h .group; mark = h .mark; batch = h .batch; machines = laid (o .machines) (room .machines); links = laid (o .links) (room .links) } }
-wentOf file.ended room = record { step = went.End; room = room }
-wentOf (file.stop code value) room = record { step = went.Refused code value; room = room }
+    record { step = steps.Report (readerOf r); room = record { up = h .up; depth = h .depth; group = h .group; mark = h .mark; batch = h .batch; machines = laid (o .machines) (room .machines); links = laid (o .links) (room .links) } }
+wentOf file.ended room = record { step = steps.End; room = room }
+wentOf (file.stop code value) room = record { step = steps.Refused code value; room = room }
 
 unfoldable pub nextOf : List ℕ → Reader → Room → Went
-nextOf bytes r room = cond (fits r room) (wentOf (file.step bytes (readOf r room)) room) (record { step = went.Unfit; room = room })
+nextOf bytes r room = cond (fits r room) (wentOf (file.step bytes (readOf r room)) room) (record { step = steps.Unfit; room = room })

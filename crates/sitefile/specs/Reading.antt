@@ -15,16 +15,8 @@ use Rattle.sitefile.specs.Record.{known, bodyLength, bodyOf, word}
 use Rattle.sitefile.specs.File as file
 use Rattle.sitefile.specs.Next.{Room, Went, readOf, laid, wentOf}
 use Rattle.sitefile.specs.declared.Reader.{Reader}
-use Rattle.sitefile.specs.declared.Step.{Step}
 use Rattle.sitefile.specs.declared.due.Due.{Due}
 use Rattle.sitefile.specs.declared.due.Due.the-variants as due
-
--- the seven slices as one, and a step with what it leaves there
-abbrev pub roomOf : List ℕ → List ℕ → List ℕ → List ℕ → List ℕ → List ℕ → List ℕ → Room
-roomOf up depth group mark batch machines links = record { up = up; depth = depth; group = group; mark = mark; batch = batch; machines = machines; links = links }
-
-abbrev pub went : Step → Room → Went
-went s room = record { step = s; room = room }
 
 -- the slices have these lengths, and the reader these numbers
 unfoldable pub lengthsFit : ℕ → ℕ → ℕ → ℕ → ℕ → ℕ → ℕ → Bool

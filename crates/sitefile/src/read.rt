@@ -1,8 +1,8 @@
 // The reader of the site file: one record at a time, over lent slices.
 ghost use mathlib.Core.Path.{_≡_};
 ghost use mathlib.Core.Bool.{_&&_};
-ghost use Rattle.sitefile.specs.Next.{nextOf};
-ghost use Rattle.sitefile.specs.Reading.{roomOf, went, lengthsFit, countsFit};
+ghost use Rattle.sitefile.specs.Next.{nextOf, roomOf, went};
+ghost use Rattle.sitefile.specs.Reading.{lengthsFit, countsFit};
 use crate::Reader;
 use crate::Step;
 use crate::due;
