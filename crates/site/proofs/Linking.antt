@@ -1,9 +1,9 @@
 -- One link, from its two climbs: the marks of both arms are those of the ring, and the machines that the climbs came by last are the children
 -- of w on the ring, so that theirs are the groups to join.
 use mathlib.Core.Path.{_≡_, _∙_}
-use mathlib.Core.List.{List}
+use mathlib.Core.List.{List, map}
 use mathlib.Core.Logic.{_≢_, ⊎-elim}
-use Prim.Native.Nat.{ℕ, _+_, _<_, max}
+use Prim.Native.Nat.{ℕ, _+_, _<_, max, min}
 use native.Mathlib.Omega.{arith}
 use lib.ListN.{length}
 use lib.Dec.{eqb}
@@ -15,15 +15,12 @@ use Rattle.graph.specs.Walk.{stay}
 use Rattle.rings.specs.Tree.{Under}
 use Rattle.rings.proofs.Under.{in-tree, no-return}
 use Rattle.tables.specs.Tree.{treeOf}
-use Rattle.tables.specs.Link.{meet, due, raised, below, grouped}
+use Rattle.tables.specs.Link.{meet, due, raised, below, grouped, renamed, joined}
 use Rattle.tables.specs.Demand1.{SoundTree}
 use Rattle.tables.proofs.Sound.{rooted}
 use Rattle.tables.proofs.Lines.{meets}
 use Rattle.site.specs.RingStep.{Climbs, Top, want, Raises, joinedBelow, Linkable, Links}
 use Rattle.site.proofs.Arms.{due-arms, below-one}
-use mathlib.Core.List.{map}
-use Prim.Native.Nat.{max, min}
-use Rattle.tables.specs.Link.{renamed, joined}
 
 -- the groups of c and d are made one by calling the greater name the lesser
 pub joined-by : (group : List ℕ) (c d : ℕ) {group′ : List ℕ} {hi lo : ℕ} → hi ≡ max (at group c) (at group d) → lo ≡ min (at group c) (at group d)

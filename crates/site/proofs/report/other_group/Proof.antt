@@ -3,9 +3,8 @@ use Prim.Native.Nat.{_≤_, _-_}
 use native.Mathlib.Omega.{arith}
 use lib.ListN.{length}
 use borrow.Author.Needs.{needs}
-use Rattle.plain.proofs.Loops.{NoneBelow}
+use Rattle.plain.proofs.Loops.{NoneBelow, found, missed, unfound}
 use Rattle.site.specs.ReportFill.{inTwo}
-use Rattle.plain.proofs.Loops.{found, missed, unfound}
 use Rattle.site.proofs.report.other_group.Statement.{statement}
 use Rattle.site.proofs.report.other_group.Tie as tie
 

@@ -3,11 +3,10 @@ use Prim.Native.Nat.{_≤_, _-_}
 use native.Mathlib.Omega.{arith}
 use lib.ListN.{length}
 use borrow.Author.Needs.{needs}
-use Rattle.plain.proofs.Loops.{NoneBelow}
+use Rattle.plain.proofs.Loops.{NoneBelow, found, missed, unfound}
 use Rattle.plain.specs.Search.{some}
 use Rattle.tables.specs.Report.{split}
 use Rattle.site.specs.ReportFill.{inTwo}
-use Rattle.plain.proofs.Loops.{found, missed, unfound}
 use Rattle.site.proofs.report.split.Statement.{statement}
 use Rattle.site.proofs.report.split.Tie as tie
 

@@ -4,11 +4,10 @@ use Prim.Native.Nat.{ℕ, _≤_, _-_}
 use native.Mathlib.Omega.{arith}
 use lib.ListN.{length}
 use borrow.Author.Needs.{needs}
-use Rattle.plain.proofs.Loops.{NoneBelow}
+use Rattle.plain.proofs.Loops.{NoneBelow, found, missed, unfound}
 use Rattle.tables.specs.Report.{stuck}
 use Rattle.site.specs.ReportFill.{stuckChild}
 use Rattle.site.specs.Lent.{tablesOf}
-use Rattle.plain.proofs.Loops.{found, missed, unfound}
 use Rattle.site.proofs.report.stuck.Statement.{statement}
 use Rattle.site.proofs.report.stuck.Tie as tie
 

@@ -1,9 +1,8 @@
 -- `kinds::uplink`: one uplink more; after the last the tree's verdict decides, and a refusal has the old entry put back.
-use lib.ListN.{length-set}
+use lib.ListN.{length-set, length}
 use Rattle.sitefile.proofs.ReadKinds.{number-in, uplink-more, uplink-last, uplink-refused}
 use Prim.Native.Nat.{_<_, _+_}
 use mathlib.Core.Path.{_≡_, refl}
-use lib.ListN.{length}
 use native.Mathlib.Omega.{arith}
 use borrow.Author.Needs.{needs}
 use Rattle.sitefile.proofs.kinds.uplink.Statement.{statement}
