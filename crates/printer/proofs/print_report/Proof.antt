@@ -6,15 +6,6 @@ use borrow.Author.Needs.{needs}
 use Rattle.printer.proofs.print_report.Statement.{statement}
 use Rattle.printer.proofs.print_report.Tie as tie
 
-returns : tie.Need-returns
-returns c = search needs
-
-returns-2 : tie.Need-returns-2
-returns-2 c = search needs
-
-returns-3 : tie.Need-returns-3
-returns-3 c = search needs
-
 slice-aggregate-report-text : tie.Need-slice-aggregate-report-text
 slice-aggregate-report-text c = sym (length-take-le _ _ (c .before .before .before .if1 .left))
 
@@ -24,29 +15,17 @@ slice-aggregate-report-text-2 c = sym (length-take-le _ _ (c .before .before .be
 slice-aggregate-report-text-3 : tie.Need-slice-aggregate-report-text-3
 slice-aggregate-report-text-3 c = sym (length-take-le _ _ (c .before .before .before .if3 .left))
 
-report-text-requires : tie.Need-report-text-requires
-report-text-requires c κs = search needs
-
-write-text-requires : tie.Need-write-text-requires
-write-text-requires c κs = search needs
-
-same-length : tie.Need-same-length
-same-length c = search needs
-
-returns-4 : tie.Need-returns-4
-returns-4 c = search needs
-
 pub print-report-spec : {M : Type 1} → statement M
 print-report-spec =
     tie.close
     (tie.spec
-    returns
-    returns-2
-    returns-3
+    (λ c. search needs)
+    (λ c. search needs)
+    (λ c. search needs)
     slice-aggregate-report-text
     slice-aggregate-report-text-2
     slice-aggregate-report-text-3
-    report-text-requires
-    write-text-requires
-    same-length
-    returns-4)
+    (λ c κs. search needs)
+    (λ c κs. search needs)
+    (λ c. search needs)
+    (λ c. search needs))

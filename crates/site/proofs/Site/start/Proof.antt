@@ -10,18 +10,6 @@ use borrow.Author.Needs.{needs}
 use Rattle.site.proofs.Site.start.Statement.{statement}
 use Rattle.site.proofs.Site.start.Tie as tie
 
-sizes-requires : tie.Need-sizes-requires
-sizes-requires c κs = search needs
-
-enum-told : tie.Need-enum-told
-enum-told c = search needs
-
-enum-told-2 : tie.Need-enum-told-2
-enum-told-2 c = search needs
-
-refusal-requires : tie.Need-refusal-requires
-refusal-requires c κs = search needs
-
 returns : tie.Need-returns
 returns c = start-lengths _ _ _ _ (c .before .before .before .sizes .ensures) (c .before .enum-told2 .given .1) (c .refusal .ensures)
 
@@ -34,15 +22,6 @@ slice-aggregate-check c = sym (length-take-le _ _ (sizes-of _ _ _ _ (told (c .be
 check-requires : tie.Need-check-requires
 check-requires c κs = let few = sizes-of _ _ _ _ (told (c .before .enum-told .given .1) (c .before .before .before .sizes .ensures)) .few in
     record { few = few; size = length-take-le _ _ few }
-
-enum-told-3 : tie.Need-enum-told-3
-enum-told-3 c = search needs
-
-enum-told-4 : tie.Need-enum-told-4
-enum-told-4 c = search needs
-
-refusal-requires-2 : tie.Need-refusal-requires-2
-refusal-requires-2 c κs = search needs
 
 returns-2 : tie.Need-returns-2
 returns-2 c = start-tree _ _ _ _ (c .before .before .before .before .before .before .before .before .sizes .ensures) (c .before .before .before .before .before .before .enum-told .given .1) (c .before .before .before .before .check .ensures .verdict) (c .before .enum-told4 .given .1) (c .refusal2 .ensures)
@@ -60,18 +39,6 @@ copy-requires c κs = sizes-of _ _ _ _ (told (c .before .before .before .before 
 number-requires : tie.Need-number-requires
 number-requires c κs = let l = sizes-of _ _ _ _ (told (c .before .before .before .before .before .before .before .before .before .before .before .enum-told .given .1) (c .before .before .before .before .before .before .before .before .before .before .before .before .before .sizes .ensures)) in omega (arith, l .few, l .group-size)
 
-clear-requires : tie.Need-clear-requires
-clear-requires c κs = search needs
-
-same-length : tie.Need-same-length
-same-length c = search needs
-
-same-length-2 : tie.Need-same-length-2
-same-length-2 c = search needs
-
-same-length-3 : tie.Need-same-length-3
-same-length-3 c = search needs
-
 returns-3 : tie.Need-returns-3
 returns-3 c = start-done _ _ _ _ (c .before .before .before .before .before .before .before .before .before .before .before .before .before .before .before .before .before .before .before .before .sizes .ensures) (c .before .before .before .before .before .before .before .before .before .before .before .before .before .before .before .before .before .before .enum-told .given .1) (c .before .before .before .before .before .before .before .before .before .before .before .before .before .before .before .before .check .ensures .verdict) (c .before .before .before .before .before .before .before .before .before .before .before .before .before .enum-told3 .given .1)
     (c .before .before .before .before .before .before .before .before .before .before .copy .ensures ∙ take-at _ _ _ (c .before .before .before .before .before .before .before .before .before .before .before .before .before .before .before .before .check .ensures .size) ∙ c .before .before .before .before .before .before .before .before .before .before .before .before .before .before .before .before .check .ensures .depths (ap verdictOf (c .before .before .before .before .before .before .before .before .before .before .before .before .before .enum-told3 .given .1)))
@@ -81,24 +48,24 @@ pub start-spec : {M : Type 1} → statement M
 start-spec =
     tie.close
     (tie.spec
-    sizes-requires
-    enum-told
-    enum-told-2
-    refusal-requires
+    (λ c κs. search needs)
+    (λ c. search needs)
+    (λ c. search needs)
+    (λ c κs. search needs)
     returns
     array-borrow-prefix-known
     slice-aggregate-check
     check-requires
-    enum-told-3
-    enum-told-4
-    refusal-requires-2
+    (λ c. search needs)
+    (λ c. search needs)
+    (λ c κs. search needs)
     returns-2
     array-share-prefix-known
     slice-aggregate-copy
     copy-requires
     number-requires
-    clear-requires
-    same-length
-    same-length-2
-    same-length-3
+    (λ c κs. search needs)
+    (λ c. search needs)
+    (λ c. search needs)
+    (λ c. search needs)
     returns-3)

@@ -5,17 +5,11 @@ use Rattle.site.proofs.Batches.{too-long, by-ends}
 use Rattle.site.proofs.batch.check.Statement.{statement}
 use Rattle.site.proofs.batch.check.Tie as tie
 
-length-fits-requires : tie.Need-length-fits-requires
-length-fits-requires c κs = search needs
-
 returns : tie.Need-returns
 returns c = too-long _ _ (c .before .length-fits .ensures) (not-true _ (c .if1 .taken))
-
-ends-requires : tie.Need-ends-requires
-ends-requires c κs = search needs
 
 returns-2 : tie.Need-returns-2
 returns-2 c = by-ends _ _ (c .before .before .length-fits .ensures) (not-false _ (c .before .if1 .left)) (c .ends .ensures)
 
 pub check-spec : {M : Type 1} → statement M
-check-spec = tie.close (tie.spec length-fits-requires returns ends-requires returns-2)
+check-spec = tie.close (tie.spec (λ c κs. search needs) returns (λ c κs. search needs) returns-2)

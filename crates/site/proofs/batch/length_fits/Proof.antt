@@ -4,9 +4,6 @@ use borrow.Author.Tests.{eq-eqb, ne-eqb}
 use Rattle.site.proofs.batch.length_fits.Statement.{statement}
 use Rattle.site.proofs.batch.length_fits.Tie as tie
 
-mul-result : tie.Need-mul-result
-mul-result c = search needs
-
 returns : tie.Need-returns
 returns c = rw (eq-eqb _ _ (c .if1 .taken))
 
@@ -14,4 +11,4 @@ returns-2 : tie.Need-returns-2
 returns-2 c = rw (ne-eqb _ _ (c .if1 .left))
 
 pub length-fits-spec : {M : Type 1} → statement M
-length-fits-spec = tie.close (tie.spec mul-result returns returns-2)
+length-fits-spec = tie.close (tie.spec (λ c. search needs) returns returns-2)

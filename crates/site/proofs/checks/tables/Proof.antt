@@ -18,17 +18,8 @@ check-requires c κs =
     let few = c .before .before .before .before .before .pre .few in
     record { few = few; size = length-take-le _ _ few }
 
-enum-told : tie.Need-enum-told
-enum-told c = search needs
-
-enum-told-2 : tie.Need-enum-told-2
-enum-told-2 c = search needs
-
 returns : tie.Need-returns
 returns c = tables-refused _ (c .before .before .before .check .ensures .verdict) _ (c .enum-told2 .given .1)
-
-hub-requires : tie.Need-hub-requires
-hub-requires c κs = search needs
 
 check-requires-2 : tie.Need-check-requires-2
 check-requires-2 c κs =
@@ -48,9 +39,9 @@ tables-spec =
     array-borrow-prefix-known
     slice-aggregate-check
     check-requires
-    enum-told
-    enum-told-2
+    (λ c. search needs)
+    (λ c. search needs)
     returns
-    hub-requires
+    (λ c κs. search needs)
     check-requires-2
     returns-2)

@@ -17,26 +17,8 @@ abbrev μ-loop : tie.MeasureT-loop
 loop-holds : tie.Need-loop-holds Inv-loop μ-loop
 loop-holds c = fill-start _ _
 
-cast-group : tie.Need-cast-group Inv-loop μ-loop
-cast-group c = search needs
-
-mul-group : tie.Need-mul-group Inv-loop μ-loop
-mul-group c = search needs
-
-slice-write-group : tie.Need-slice-write-group Inv-loop μ-loop
-slice-write-group c = search needs
-
-add-v : tie.Need-add-v Inv-loop μ-loop
-add-v c = search needs
-
-loop-less : tie.Need-loop-less Inv-loop μ-loop
-loop-less c = search needs
-
 loop-again : tie.Need-loop-again Inv-loop μ-loop
 loop-again c = fill-next (c .before .loop .v) (omega arith) refl (c .before .loop .inv)
-
-same-length : tie.Need-same-length Inv-loop μ-loop
-same-length c = search needs
 
 returns : tie.Need-returns Inv-loop μ-loop
 returns c = fill-end (omega arith) (c .before .loop .inv)
@@ -48,11 +30,11 @@ number-spec =
     Inv-loop
     μ-loop
     loop-holds
-    cast-group
-    mul-group
-    slice-write-group
-    add-v
-    loop-less
+    (λ c. search needs)
+    (λ c. search needs)
+    (λ c. search needs)
+    (λ c. search needs)
+    (λ c. search needs)
     loop-again
-    same-length
+    (λ c. search needs)
     returns)

@@ -4,14 +4,8 @@ use borrow.Author.Tests.{eq-eqb, ne-eqb}
 use Rattle.site.proofs.report.carried_member.Statement.{statement}
 use Rattle.site.proofs.report.carried_member.Tie as tie
 
-at-requires : tie.Need-at-requires
-at-requires c κs = search needs
-
 returns : tie.Need-returns
 returns c = rw (← c .before .at .ensures, ne-eqb _ _ (c .if1 .taken))
-
-shared-slice-read-match : tie.Need-shared-slice-read-match
-shared-slice-read-match c = search needs
 
 returns-2 : tie.Need-returns-2
 returns-2 c = rw (← c .before .before .before .at .ensures, eq-eqb _ _ (c .before .before .if1 .left), eq-eqb _ 2 (c .match .keys1))
@@ -21,4 +15,4 @@ returns-3 c = rw (← c .before .before .before .at .ensures, eq-eqb _ _ (c .bef
 
 pub carried-member-spec : {M : Type 1} → statement M
 carried-member-spec =
-    tie.close (tie.spec at-requires returns shared-slice-read-match returns-2 returns-3)
+    tie.close (tie.spec (λ c κs. search needs) returns (λ c. search needs) returns-2 returns-3)

@@ -9,12 +9,9 @@ returns : tie.Need-returns
 unfolding child
 returns c = rw (at-hub _ (c .before .before .pre .1) (c .if1 .taken))
 
-at-requires : tie.Need-at-requires
-at-requires c κs = search needs
-
 returns-2 : tie.Need-returns-2
 unfolding child
 returns-2 c = rw (off-hub _ (c .before .before .before .pre .1) (c .before .if1 .left), ← c .at .ensures)
 
 pub child-spec : {M : Type 1} → statement M
-child-spec = tie.close (tie.spec returns at-requires returns-2)
+child-spec = tie.close (tie.spec returns (λ c κs. search needs) returns-2)

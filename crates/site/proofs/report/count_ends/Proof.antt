@@ -17,20 +17,8 @@ abbrev μ-loop : tie.MeasureT-loop
 loop-holds : tie.Need-loop-holds Inv-loop μ-loop
 loop-holds c = counted-none _ _
 
-ends-requires : tie.Need-ends-requires Inv-loop μ-loop
-ends-requires c κs = search needs
-
-one-requires : tie.Need-one-requires Inv-loop μ-loop
-one-requires c κs = search needs
-
 add-n : tie.Need-add-n Inv-loop μ-loop
 add-n c = let q = counted-more (c .before .before .before .loop .inv) (c .before .before .loop-test .taken) (c .before .ends .ensures) (c .one .ensures) in omega arith
-
-add-v : tie.Need-add-v Inv-loop μ-loop
-add-v c = search needs
-
-loop-less : tie.Need-loop-less Inv-loop μ-loop
-loop-less c = search needs
 
 loop-again : tie.Need-loop-again Inv-loop μ-loop
 loop-again c = counted-more (c .before .before .before .loop .inv) (c .before .before .loop-test .taken) (c .before .ends .ensures) (c .one .ensures)
@@ -45,10 +33,10 @@ count-ends-spec =
     Inv-loop
     μ-loop
     loop-holds
-    ends-requires
-    one-requires
+    (λ c κs. search needs)
+    (λ c κs. search needs)
     add-n
-    add-v
-    loop-less
+    (λ c. search needs)
+    (λ c. search needs)
     loop-again
     returns)

@@ -14,12 +14,9 @@ returns-2 : tie.Need-returns-2
 unfolding ends
 returns-2 c = rw (off-hub _ (c .before .before .before .pre .1) (c .before .if1 .left), eq-eqb _ _ (c .if2 .taken))
 
-at-requires : tie.Need-at-requires
-at-requires c κs = search needs
-
 returns-3 : tie.Need-returns-3
 unfolding ends
 returns-3 c = rw (off-hub _ (c .before .before .before .before .pre .1) (c .before .before .if1 .left), ne-eqb _ _ (c .before .if2 .left), ← c .at .ensures)
 
 pub ends-spec : {M : Type 1} → statement M
-ends-spec = tie.close (tie.spec returns returns-2 at-requires returns-3)
+ends-spec = tie.close (tie.spec returns returns-2 (λ c κs. search needs) returns-3)

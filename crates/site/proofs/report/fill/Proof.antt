@@ -5,21 +5,6 @@ use Rattle.tables.specs.Outcome.{named}
 use Rattle.site.proofs.report.fill.Statement.{statement}
 use Rattle.site.proofs.report.fill.Tie as tie
 
-fill-machines-requires : tie.Need-fill-machines-requires
-fill-machines-requires c κs = search needs
-
-fill-links-requires : tie.Need-fill-links-requires
-fill-links-requires c κs = search needs
-
-count-named-requires : tie.Need-count-named-requires
-count-named-requires c κs = search needs
-
-same-length : tie.Need-same-length
-same-length c = search needs
-
-same-length-2 : tie.Need-same-length-2
-same-length-2 c = search needs
-
 returns : tie.Need-returns
 returns c = λ d.
     let s = c .before .before .before .before .before .before .before .before .before .before .before .before .before .before .before .pre .read in
@@ -31,9 +16,9 @@ pub fill-spec : {M : Type 1} → statement M
 fill-spec =
     tie.close
     (tie.spec
-    fill-machines-requires
-    fill-links-requires
-    count-named-requires
-    same-length
-    same-length-2
+    (λ c κs. search needs)
+    (λ c κs. search needs)
+    (λ c κs. search needs)
+    (λ c. search needs)
+    (λ c. search needs)
     returns)

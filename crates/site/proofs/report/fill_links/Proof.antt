@@ -22,27 +22,12 @@ abbrev μ-loop : tie.MeasureT-loop
 loop-holds : tie.Need-loop-holds Inv-loop μ-loop
 loop-holds c = (omega arith, c .before .before .pre, λ up d g e k h. absurd (omega arith))
 
-link-byte-requires : tie.Need-link-byte-requires Inv-loop μ-loop
-link-byte-requires c κs = search needs
-
-slice-write-links : tie.Need-slice-write-links Inv-loop μ-loop
-slice-write-links c = search needs
-
-add-v : tie.Need-add-v Inv-loop μ-loop
-add-v c = search needs
-
-loop-less : tie.Need-loop-less Inv-loop μ-loop
-loop-less c = search needs
-
 loop-again : tie.Need-loop-again Inv-loop μ-loop
 loop-again c = let l = c .before .before .loop in (
   omega arith,
   simp length-set (l .inv .1),
   λ up d g e. fill-more (l .links) (l .v) _ _ (omega arith) (l .inv .2 up d g e) (c .link-byte .ensures up d g e),
 )
-
-same-length : tie.Need-same-length Inv-loop μ-loop
-same-length c = search needs
 
 returns : tie.Need-returns Inv-loop μ-loop
 unfolding linkBytes
@@ -55,10 +40,10 @@ fill-links-spec =
     Inv-loop
     μ-loop
     loop-holds
-    link-byte-requires
-    slice-write-links
-    add-v
-    loop-less
+    (λ c κs. search needs)
+    (λ c. search needs)
+    (λ c. search needs)
+    (λ c. search needs)
     loop-again
-    same-length
+    (λ c. search needs)
     returns)

@@ -21,27 +21,12 @@ abbrev μ-loop : tie.MeasureT-loop
 loop-holds : tie.Need-loop-holds Inv-loop μ-loop
 loop-holds c = (omega arith, c .before .before .before .before .pre .1, λ d k h. absurd (omega arith))
 
-machine-byte-requires : tie.Need-machine-byte-requires Inv-loop μ-loop
-machine-byte-requires c κs = search needs
-
-slice-write-machines : tie.Need-slice-write-machines Inv-loop μ-loop
-slice-write-machines c = search needs
-
-add-w : tie.Need-add-w Inv-loop μ-loop
-add-w c = search needs
-
-loop-less : tie.Need-loop-less Inv-loop μ-loop
-loop-less c = search needs
-
 loop-again : tie.Need-loop-again Inv-loop μ-loop
 loop-again c = let l = c .before .before .loop in (
   omega arith,
   simp length-set (l .inv .1),
   λ d. fill-more (l .machines) (l .w) _ _ (omega arith) (l .inv .2 d) (c .machine-byte .ensures d),
 )
-
-same-length : tie.Need-same-length Inv-loop μ-loop
-same-length c = search needs
 
 returns : tie.Need-returns Inv-loop μ-loop
 unfolding machineBytes
@@ -54,10 +39,10 @@ fill-machines-spec =
     Inv-loop
     μ-loop
     loop-holds
-    machine-byte-requires
-    slice-write-machines
-    add-w
-    loop-less
+    (λ c κs. search needs)
+    (λ c. search needs)
+    (λ c. search needs)
+    (λ c. search needs)
     loop-again
-    same-length
+    (λ c. search needs)
     returns)

@@ -10,9 +10,6 @@ returns : tie.Need-returns
 unfolding linkByte
 returns c = λ up d g e. rw (at-hub up e (c .if1 .taken))
 
-shared-slice-read-match : tie.Need-shared-slice-read-match
-shared-slice-read-match c = search needs
-
 returns-2 : tie.Need-returns-2
 unfolding linkByte
 returns-2 c = λ up d g e. rw (off-hub up e (c .before .before .if1 .left), eq-eqb _ 0 (c .match .keys1))
@@ -22,4 +19,4 @@ unfolding linkByte
 returns-3 c = λ up d g e. rw (off-hub up e (c .before .before .if1 .left), ne-eqb _ 0 (c .match .rest .1))
 
 pub link-byte-spec : {M : Type 1} → statement M
-link-byte-spec = tie.close (tie.spec returns shared-slice-read-match returns-2 returns-3)
+link-byte-spec = tie.close (tie.spec returns (λ c. search needs) returns-2 returns-3)

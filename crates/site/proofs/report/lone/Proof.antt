@@ -7,19 +7,13 @@ use Rattle.site.proofs.Keeping.{stop, on}
 use Rattle.site.proofs.report.lone.Statement.{statement}
 use Rattle.site.proofs.report.lone.Tie as tie
 
-ends-lone-requires : tie.Need-ends-lone-requires
-ends-lone-requires c κs = search needs
-
 returns : tie.Need-returns
 unfolding lone
 returns c = λ d g. stop _ (c .before .ends-lone .ensures) (c .if1 .taken)
-
-count-ends-requires : tie.Need-count-ends-requires
-count-ends-requires c κs = search needs
 
 returns-2 : tie.Need-returns-2
 unfolding lone
 returns-2 c = λ d g. on (c .before .before .ends-lone .ensures) (c .before .if1 .left) (ap (leb 2) (c .count-ends .ensures))
 
 pub lone-spec : {M : Type 1} → statement M
-lone-spec = tie.close (tie.spec ends-lone-requires returns count-ends-requires returns-2)
+lone-spec = tie.close (tie.spec (λ c κs. search needs) returns (λ c κs. search needs) returns-2)

@@ -3,9 +3,6 @@ use borrow.Author.Needs.{needs}
 use Rattle.site.proofs.report.lone_byte.Statement.{statement}
 use Rattle.site.proofs.report.lone_byte.Tie as tie
 
-lone-requires : tie.Need-lone-requires
-lone-requires c κs = search needs
-
 returns : tie.Need-returns
 returns c = λ d g. rw (← c .before .lone .ensures d g, c .if1 .taken)
 
@@ -13,4 +10,4 @@ returns-2 : tie.Need-returns-2
 returns-2 c = λ d g. rw (← c .before .lone .ensures d g, c .if1 .left)
 
 pub lone-byte-spec : {M : Type 1} → statement M
-lone-byte-spec = tie.close (tie.spec lone-requires returns returns-2)
+lone-byte-spec = tie.close (tie.spec (λ c κs. search needs) returns returns-2)

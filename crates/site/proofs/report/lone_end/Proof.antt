@@ -6,14 +6,8 @@ use Rattle.site.proofs.Keeping.{stop, on}
 use Rattle.site.proofs.report.lone_end.Statement.{statement}
 use Rattle.site.proofs.report.lone_end.Tie as tie
 
-ends-requires : tie.Need-ends-requires
-ends-requires c κs = search needs
-
 returns : tie.Need-returns
 returns c = stop _ (c .before .ends .ensures) (c .if1 .taken)
-
-shared-slice-read-match : tie.Need-shared-slice-read-match
-shared-slice-read-match c = search needs
 
 returns-2 : tie.Need-returns-2
 returns-2 c = on (c .before .before .before .ends .ensures) (c .before .before .if1 .left) (sym (eq-eqb _ 0 (c .match .keys1)))
@@ -23,4 +17,4 @@ returns-3 c = on (c .before .before .before .ends .ensures) (c .before .before .
 
 pub lone-end-spec : {M : Type 1} → statement M
 lone-end-spec =
-    tie.close (tie.spec ends-requires returns shared-slice-read-match returns-2 returns-3)
+    tie.close (tie.spec (λ c κs. search needs) returns (λ c. search needs) returns-2 returns-3)

@@ -5,25 +5,13 @@ use Rattle.site.proofs.Keeping.{at-hub, off-hub}
 use Rattle.site.proofs.report.machine_byte.Statement.{statement}
 use Rattle.site.proofs.report.machine_byte.Tie as tie
 
-split-requires : tie.Need-split-requires
-split-requires c κs = search needs
-
 returns : tie.Need-returns
 unfolding machineByte
 returns c = λ d. rw (at-hub _ (c .before .before .before .before .before .before .pre .top) (c .before .before .if1 .taken), ← c .before .split .ensures d _, c .if2 .taken)
 
-lone-byte-requires : tie.Need-lone-byte-requires
-lone-byte-requires c κs = search needs
-
-stuck-requires : tie.Need-stuck-requires
-stuck-requires c κs = search needs
-
 returns-2 : tie.Need-returns-2
 unfolding machineByte
 returns-2 c = λ d. rw (off-hub _ (c .before .before .before .before .before .before .pre .top) (c .before .before .if1 .left), ← c .before .stuck .ensures d, c .if3 .taken)
-
-lone-byte-requires-2 : tie.Need-lone-byte-requires-2
-lone-byte-requires-2 c κs = search needs
 
 returns-3 : tie.Need-returns-3
 unfolding machineByte
@@ -39,11 +27,11 @@ pub machine-byte-spec : {M : Type 1} → statement M
 machine-byte-spec =
     tie.close
     (tie.spec
-    split-requires
+    (λ c κs. search needs)
     returns
-    lone-byte-requires
-    stuck-requires
+    (λ c κs. search needs)
+    (λ c κs. search needs)
     returns-2
-    lone-byte-requires-2
+    (λ c κs. search needs)
     returns-3
     returns-4)

@@ -17,17 +17,8 @@ abbrev μ-loop : tie.MeasureT-loop
 loop-holds : tie.Need-loop-holds Inv-loop μ-loop
 loop-holds c = (omega arith, λ k h. absurd (omega arith))
 
-in-two-requires : tie.Need-in-two-requires Inv-loop μ-loop
-in-two-requires c κs = search needs
-
 returns : tie.Need-returns Inv-loop μ-loop
 returns c = found _ _ _ (c .before .before .loop-test .taken) (c .before .in-two .ensures) (c .if1 .taken)
-
-add-d : tie.Need-add-d Inv-loop μ-loop
-add-d c = search needs
-
-loop-less : tie.Need-loop-less Inv-loop μ-loop
-loop-less c = search needs
 
 loop-again : tie.Need-loop-again Inv-loop μ-loop
 loop-again c = (omega arith, missed _ _ (c .before .before .before .loop .inv .1) (c .before .in-two .ensures) (c .if1 .left))
@@ -42,9 +33,9 @@ other-group-spec =
     Inv-loop
     μ-loop
     loop-holds
-    in-two-requires
+    (λ c κs. search needs)
     returns
-    add-d
-    loop-less
+    (λ c. search needs)
+    (λ c. search needs)
     loop-again
     returns-2)

@@ -19,18 +19,9 @@ abbrev μ-loop : tie.MeasureT-loop
 loop-holds : tie.Need-loop-holds Inv-loop μ-loop
 loop-holds c = (omega arith, λ k h. absurd (omega arith))
 
-other-group-requires : tie.Need-other-group-requires Inv-loop μ-loop
-other-group-requires c κs = search needs
-
 returns : tie.Need-returns Inv-loop μ-loop
 unfolding split
 returns c = λ d m. found _ _ _ (c .before .before .loop-test .taken) (c .before .other-group .ensures) (c .if1 .taken)
-
-add-c : tie.Need-add-c Inv-loop μ-loop
-add-c c = search needs
-
-loop-less : tie.Need-loop-less Inv-loop μ-loop
-loop-less c = search needs
 
 loop-again : tie.Need-loop-again Inv-loop μ-loop
 loop-again c = (omega arith, missed _ _ (c .before .before .before .loop .inv .1) (c .before .other-group .ensures) (c .if1 .left))
@@ -46,9 +37,9 @@ split-spec =
     Inv-loop
     μ-loop
     loop-holds
-    other-group-requires
+    (λ c κs. search needs)
     returns
-    add-c
-    loop-less
+    (λ c. search needs)
+    (λ c. search needs)
     loop-again
     returns-2)

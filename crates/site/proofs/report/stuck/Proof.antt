@@ -20,18 +20,9 @@ abbrev μ-loop : tie.MeasureT-loop
 loop-holds : tie.Need-loop-holds Inv-loop μ-loop
 loop-holds c = (omega arith, λ d k h. absurd (omega arith))
 
-stuck-child-requires : tie.Need-stuck-child-requires Inv-loop μ-loop
-stuck-child-requires c κs = search needs
-
 returns : tie.Need-returns Inv-loop μ-loop
 unfolding stuck
 returns c = λ d. found _ _ _ (c .before .before .loop-test .taken) (c .before .stuck-child .ensures d) (c .if1 .taken)
-
-add-c : tie.Need-add-c Inv-loop μ-loop
-add-c c = search needs
-
-loop-less : tie.Need-loop-less Inv-loop μ-loop
-loop-less c = search needs
 
 loop-again : tie.Need-loop-again Inv-loop μ-loop
 loop-again c = (omega arith, λ d. missed _ _ (c .before .before .before .loop .inv .1 d) (c .before .stuck-child .ensures d) (c .if1 .left))
@@ -47,9 +38,9 @@ stuck-spec =
     Inv-loop
     μ-loop
     loop-holds
-    stuck-child-requires
+    (λ c κs. search needs)
     returns
-    add-c
-    loop-less
+    (λ c. search needs)
+    (λ c. search needs)
     loop-again
     returns-2)

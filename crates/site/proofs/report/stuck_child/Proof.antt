@@ -5,18 +5,9 @@ use Rattle.site.proofs.Keeping.{stop, on}
 use Rattle.site.proofs.report.stuck_child.Statement.{statement}
 use Rattle.site.proofs.report.stuck_child.Tie as tie
 
-child-requires : tie.Need-child-requires
-child-requires c κs = search needs
-
 returns : tie.Need-returns
 unfolding groupCarried
 returns c = λ d. stop _ (c .before .child .ensures) (c .if1 .taken)
-
-at-requires : tie.Need-at-requires
-at-requires c κs = search needs
-
-group-carried-requires : tie.Need-group-carried-requires
-group-carried-requires c κs = search needs
 
 returns-2 : tie.Need-returns-2
 unfolding groupCarried
@@ -26,4 +17,4 @@ returns-2 c = λ d.
 
 pub stuck-child-spec : {M : Type 1} → statement M
 stuck-child-spec =
-    tie.close (tie.spec child-requires returns at-requires group-carried-requires returns-2)
+    tie.close (tie.spec (λ c κs. search needs) returns (λ c κs. search needs) (λ c κs. search needs) returns-2)

@@ -28,12 +28,6 @@ add-result c = let r2 = c .before .before .before .before .before .before .befor
     let r = r2 .before .before .before .before in
     omega (arith, r .raise .ensures .small, r2 .raise2 .ensures .small, r .before .before .before .before .before .before .before .pre .few)
 
-same-length : tie.Need-same-length
-same-length c = search needs
-
-same-length-2 : tie.Need-same-length-2
-same-length-2 c = search needs
-
 returns : tie.Need-returns
 returns c = let j = c .before .before .before .before in
     let r2 = j .before .before .before .before in
@@ -50,6 +44,6 @@ link-spec =
     raise-requires-2
     join-below-requires
     add-result
-    same-length
-    same-length-2
+    (λ c. search needs)
+    (λ c. search needs)
     returns)

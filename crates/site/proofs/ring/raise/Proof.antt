@@ -21,12 +21,6 @@ at-requires c κs = let l = c .before in here (l .before .before .before .pre) (
 slice-read-m : tie.Need-slice-read-m Inv-loop μ-loop
 slice-read-m c = let l = c .before .before .before in omega (arith, here (l .before .before .before .pre) (l .loop .inv), l .loop .inv .size)
 
-mark-for-requires : tie.Need-mark-for-requires Inv-loop μ-loop
-mark-for-requires c κs = search needs
-
-most-requires : tie.Need-most-requires Inv-loop μ-loop
-most-requires c κs = search needs
-
 sub-rise : tie.Need-sub-rise Inv-loop μ-loop
 sub-rise c = omega arith
 
@@ -61,8 +55,8 @@ raise-spec =
     loop-holds
     at-requires
     slice-read-m
-    mark-for-requires
-    most-requires
+    (λ c κs. search needs)
+    (λ c κs. search needs)
     sub-rise
     cast-rise
     add-rise

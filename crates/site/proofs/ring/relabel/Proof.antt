@@ -17,24 +17,6 @@ abbrev μ-loop : tie.MeasureT-loop
 loop-holds : tie.Need-loop-holds Inv-loop μ-loop
 loop-holds c = map-start _ _
 
-mul-rename : tie.Need-mul-rename Inv-loop μ-loop
-mul-rename c = search needs
-
-slice-read-rename : tie.Need-slice-read-rename Inv-loop μ-loop
-slice-read-rename c = search needs
-
-rename-requires : tie.Need-rename-requires Inv-loop μ-loop
-rename-requires c κs = search needs
-
-mul-group : tie.Need-mul-group Inv-loop μ-loop
-mul-group c = search needs
-
-slice-write-group : tie.Need-slice-write-group Inv-loop μ-loop
-slice-write-group c = search needs
-
-add-i : tie.Need-add-i Inv-loop μ-loop
-add-i c = search needs
-
 loop-less : tie.Need-loop-less Inv-loop μ-loop
 loop-less c = omega (arith, c .before .before .before .loop .inv .size)
 
@@ -54,12 +36,12 @@ relabel-spec =
     Inv-loop
     μ-loop
     loop-holds
-    mul-rename
-    slice-read-rename
-    rename-requires
-    mul-group
-    slice-write-group
-    add-i
+    (λ c. search needs)
+    (λ c. search needs)
+    (λ c κs. search needs)
+    (λ c. search needs)
+    (λ c. search needs)
+    (λ c. search needs)
     loop-less
     loop-again
     same-length

@@ -8,18 +8,6 @@ use Rattle.site.proofs.Keeping.{at-hub, off-hub}
 use Rattle.site.proofs.rules.carried_rule.Statement.{statement}
 use Rattle.site.proofs.rules.carried_rule.Tie as tie
 
-at-requires : tie.Need-at-requires
-at-requires c κs = search needs
-
-shared-slice-read-match : tie.Need-shared-slice-read-match
-shared-slice-read-match c = search needs
-
-shared-slice-read-ringed : tie.Need-shared-slice-read-ringed
-shared-slice-read-ringed c = search needs
-
-ringed-requires : tie.Need-ringed-requires
-ringed-requires c κs = search needs
-
 returns : tie.Need-returns
 unfolding carriedRule
 returns c = λ d g. let t = c .before .before .before .before .before .before .before .before .pre .top in
@@ -38,10 +26,10 @@ pub carried-rule-spec : {M : Type 1} → statement M
 carried-rule-spec =
     tie.close
     (tie.spec
-    at-requires
-    shared-slice-read-match
-    shared-slice-read-ringed
-    ringed-requires
+    (λ c κs. search needs)
+    (λ c. search needs)
+    (λ c. search needs)
+    (λ c κs. search needs)
     returns
     returns-2
     returns-3)

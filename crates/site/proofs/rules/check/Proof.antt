@@ -28,12 +28,6 @@ returns : tie.Need-returns Inv-loop μ-loop
 unfolding rulesVerdict
 returns c = sym (refuse-at 6 _ _ _ (c .before .before .loop-test .taken) (c .before .before .before .loop .inv .1) (broken _ _ _ (c .before .keeps .ensures) (c .if1 .taken)))
 
-add-v : tie.Need-add-v Inv-loop μ-loop
-add-v c = search needs
-
-loop-less : tie.Need-loop-less Inv-loop μ-loop
-loop-less c = search needs
-
 loop-again : tie.Need-loop-again Inv-loop μ-loop
 loop-again c = (omega arith, none-more _ _ (c .before .before .before .loop .inv .1) (broken _ _ _ (c .before .keeps .ensures) (c .if1 .left)))
 
@@ -50,7 +44,7 @@ check-spec =
     loop-holds
     keeps-requires
     returns
-    add-v
-    loop-less
+    (λ c. search needs)
+    (λ c. search needs)
     loop-again
     returns-2)

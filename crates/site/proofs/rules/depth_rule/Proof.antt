@@ -7,18 +7,6 @@ use Rattle.site.proofs.Keeping.{at-hub, off-hub}
 use Rattle.site.proofs.rules.depth_rule.Statement.{statement}
 use Rattle.site.proofs.rules.depth_rule.Tie as tie
 
-at-requires : tie.Need-at-requires
-at-requires c κs = search needs
-
-at-requires-2 : tie.Need-at-requires-2
-at-requires-2 c κs = search needs
-
-at-requires-3 : tie.Need-at-requires-3
-at-requires-3 c κs = search needs
-
-at-requires-4 : tie.Need-at-requires-4
-at-requires-4 c κs = search needs
-
 add-result : tie.Need-add-result
 add-result c = omega (arith, c .before .before .before .before .shared-slice-known2 .given (c .before .at3 .result))
 
@@ -34,4 +22,4 @@ returns-2 c = λ g m.
 pub depth-rule-spec : {M : Type 1} → statement M
 depth-rule-spec =
     tie.close
-    (tie.spec at-requires at-requires-2 at-requires-3 at-requires-4 add-result returns returns-2)
+    (tie.spec (λ c κs. search needs) (λ c κs. search needs) (λ c κs. search needs) (λ c κs. search needs) add-result returns returns-2)

@@ -10,28 +10,16 @@ returns : tie.Need-returns
 unfolding groupRule
 returns c = λ d m. rw (at-hub _ (c .before .before .before .pre .top) (c .if1 .taken))
 
-at-requires : tie.Need-at-requires
-at-requires c κs = search needs
-
 returns-2 : tie.Need-returns-2
 returns-2 c = λ d m. name-over (c .before .before .before .before .before .pre) (c .before .before .if1 .left) (c .before .at .ensures) d m (c .if2 .taken)
 
 returns-3 : tie.Need-returns-3
 returns-3 c = let b = c .before .before .before .before .before .before .pre in λ d m. name-within b (c .before .before .before .if1 .left) (c .before .before .at .ensures) d m (c .before .if2 .left) (rw (at-hub _ (b .top) (c .if3 .taken)))
 
-at-requires-2 : tie.Need-at-requires-2
-at-requires-2 c κs = search needs
-
-at-requires-3 : tie.Need-at-requires-3
-at-requires-3 c κs = search needs
-
 returns-4 : tie.Need-returns-4
 returns-4 c = let b = c .before .before .before .before .before .before .before .before .before .pre in λ d m.
     name-within b (c .before .before .before .before .before .before .if1 .left) (c .before .before .before .before .before .at .ensures) d m (c .before .before .before .before .if2 .left)
     (rw (off-hub _ (b .top) (c .before .before .before .if3 .left), ← c .before .before .at2 .ensures, ← c .before .at3 .ensures, ne-eqb _ _ (c .if4 .taken)))
-
-at-requires-4 : tie.Need-at-requires-4
-at-requires-4 c κs = search needs
 
 returns-5 : tie.Need-returns-5
 returns-5 c = let b = c .before .before .before .before .before .before .before .before .before .before .pre in λ d m.
@@ -43,11 +31,11 @@ group-rule-spec =
     tie.close
     (tie.spec
     returns
-    at-requires
+    (λ c κs. search needs)
     returns-2
     returns-3
-    at-requires-2
-    at-requires-3
+    (λ c κs. search needs)
+    (λ c κs. search needs)
     returns-4
-    at-requires-4
+    (λ c κs. search needs)
     returns-5)

@@ -10,12 +10,6 @@ returns : tie.Need-returns
 unfolding hubRule
 returns c = λ up d e. rw (off-hub up e (c .if1 .taken))
 
-shared-slice-read-match : tie.Need-shared-slice-read-match
-shared-slice-read-match c = search needs
-
-at-requires : tie.Need-at-requires
-at-requires c κs = search needs
-
 returns-2 : tie.Need-returns-2
 unfolding hubRule
 returns-2 c = λ up d e. rw (at-hub up e (c .before .before .before .if1 .left), eq-eqb _ 0 (c .before .match .keys1), ← c .at .ensures)
@@ -26,4 +20,4 @@ returns-3 c = λ up d e. rw (at-hub up e (c .before .before .if1 .left), ne-eqb 
 
 pub hub-rule-spec : {M : Type 1} → statement M
 hub-rule-spec =
-    tie.close (tie.spec returns shared-slice-read-match at-requires returns-2 returns-3)
+    tie.close (tie.spec returns (λ c. search needs) (λ c κs. search needs) returns-2 returns-3)

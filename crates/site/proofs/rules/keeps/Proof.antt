@@ -12,17 +12,11 @@ returns : tie.Need-returns
 unfolding keeps
 returns c = stop _ (c .before .depth-rule .ensures _ _) (c .if1 .taken)
 
-hub-rule-requires : tie.Need-hub-rule-requires
-hub-rule-requires c κs = search needs
-
 returns-2 : tie.Need-returns-2
 unfolding keeps
 returns-2 c = let t = c .before .before .before .before .before .before .before .before .pre .0 .top in
     on (c .before .before .before .depth-rule .ensures _ _) (c .before .before .if1 .left)
     (stop _ (c .before .hub-rule .ensures _ _ t) (c .if2 .taken))
-
-mark-rule-requires : tie.Need-mark-rule-requires
-mark-rule-requires c κs = search needs
 
 returns-3 : tie.Need-returns-3
 unfolding keeps
@@ -41,9 +35,6 @@ returns-4 c = let t = c .before .before .before .before .before .before .before 
     (on (c .before .before .before .before .before .hub-rule .ensures _ _ t) (c .before .before .before .before .if2 .left)
     (on (c .before .before .before .mark-rule .ensures _ _) (c .before .before .if3 .left)
     (stop _ (c .before .group-rule .ensures _ _) (c .if4 .taken))))
-
-partner-rule-requires : tie.Need-partner-rule-requires
-partner-rule-requires c κs = search needs
 
 returns-5 : tie.Need-returns-5
 unfolding keeps
@@ -72,13 +63,13 @@ keeps-spec =
     (tie.spec
     depth-rule-requires
     returns
-    hub-rule-requires
+    (λ c κs. search needs)
     returns-2
-    mark-rule-requires
+    (λ c κs. search needs)
     returns-3
     group-rule-requires
     returns-4
-    partner-rule-requires
+    (λ c κs. search needs)
     returns-5
     carried-rule-requires
     returns-6)

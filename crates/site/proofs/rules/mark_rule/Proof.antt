@@ -7,9 +7,6 @@ use Rattle.tables.specs.Rules.{markRule}
 use Rattle.site.proofs.rules.mark_rule.Statement.{statement}
 use Rattle.site.proofs.rules.mark_rule.Tie as tie
 
-shared-slice-read-if1 : tie.Need-shared-slice-read-if1
-shared-slice-read-if1 c = search needs
-
 returns : tie.Need-returns
 unfolding markRule
 returns c = λ d g. let a = c .before .before .args in rw (le-leb (at (a .mark .now) (a .v)) 2 (omega arith))
@@ -19,4 +16,4 @@ unfolding markRule
 returns-2 c = λ d g. rw (lt-leb _ 2 (c .if1 .left))
 
 pub mark-rule-spec : {M : Type 1} → statement M
-mark-rule-spec = tie.close (tie.spec shared-slice-read-if1 returns returns-2)
+mark-rule-spec = tie.close (tie.spec (λ c. search needs) returns returns-2)

@@ -11,9 +11,6 @@ returns : tie.Need-returns
 unfolding partnerRule
 returns c = λ up d e. rw (at-hub up e (c .if1 .taken))
 
-at-requires : tie.Need-at-requires
-at-requires c κs = search needs
-
 returns-2 : tie.Need-returns-2
 unfolding partnerRule
 returns-2 c = λ up d e. rw (off-hub up e (c .before .before .if1 .left), ← c .before .at .ensures, eq-eqb _ _ (c .if2 .taken))
@@ -22,18 +19,6 @@ returns-3 : tie.Need-returns-3
 returns-3 c = λ up d e.
     partner up d _ _ e (c .before .before .before .if1 .left) (c .before .before .at .ensures) (c .before .if2 .left)
     (rw (List·getD-eq-default (c .before .before .before .before .before .before .args .mark .now) 0 (c .if3 .taken)))
-
-shared-slice-read-ringed : tie.Need-shared-slice-read-ringed
-shared-slice-read-ringed c = search needs
-
-ringed-requires : tie.Need-ringed-requires
-ringed-requires c κs = search needs
-
-shared-slice-read-ringed-2 : tie.Need-shared-slice-read-ringed-2
-shared-slice-read-ringed-2 c = search needs
-
-ringed-requires-2 : tie.Need-ringed-requires-2
-ringed-requires-2 c κs = search needs
 
 returns-4 : tie.Need-returns-4
 returns-4 c = λ up d e.
@@ -50,12 +35,12 @@ partner-rule-spec =
     tie.close
     (tie.spec
     returns
-    at-requires
+    (λ c κs. search needs)
     returns-2
     returns-3
-    shared-slice-read-ringed
-    ringed-requires
-    shared-slice-read-ringed-2
-    ringed-requires-2
+    (λ c. search needs)
+    (λ c κs. search needs)
+    (λ c. search needs)
+    (λ c κs. search needs)
     returns-4
     returns-5)

@@ -18,23 +18,8 @@ abbrev μ-loop : tie.MeasureT-loop
 loop-holds : tie.Need-loop-holds Inv-loop μ-loop
 loop-holds c = fill-start _ _
 
-mul-known : tie.Need-mul-known Inv-loop μ-loop
-mul-known c = search needs
-
-slice-write-known : tie.Need-slice-write-known Inv-loop μ-loop
-slice-write-known c = search needs
-
-add-v : tie.Need-add-v Inv-loop μ-loop
-add-v c = search needs
-
-loop-less : tie.Need-loop-less Inv-loop μ-loop
-loop-less c = search needs
-
 loop-again : tie.Need-loop-again Inv-loop μ-loop
 loop-again c = fill-next unknown (omega arith) refl (c .before .loop .inv)
-
-same-length : tie.Need-same-length Inv-loop μ-loop
-same-length c = search needs
 
 returns : tie.Need-returns Inv-loop μ-loop
 returns c = record { size = c .before .loop .inv .size; none = λ x h. c .before .loop .inv .done x (omega arith) }
@@ -46,10 +31,10 @@ blank-spec =
     Inv-loop
     μ-loop
     loop-holds
-    mul-known
-    slice-write-known
-    add-v
-    loop-less
+    (λ c. search needs)
+    (λ c. search needs)
+    (λ c. search needs)
+    (λ c. search needs)
     loop-again
-    same-length
+    (λ c. search needs)
     returns)

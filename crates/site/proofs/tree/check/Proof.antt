@@ -4,26 +4,8 @@ use Rattle.site.proofs.TreeVerdicts.{stop-entries, stop-hubs, ready, al
 use Rattle.site.proofs.tree.check.Statement.{statement}
 use Rattle.site.proofs.tree.check.Tie as tie
 
-entries-requires : tie.Need-entries-requires
-entries-requires c κs = search needs
-
-enum-told : tie.Need-enum-told
-enum-told c = search needs
-
-enum-told-2 : tie.Need-enum-told-2
-enum-told-2 c = search needs
-
 returns : tie.Need-returns
 returns c = stop-entries (c .enum-told2 .given .1) (c .before .before .entries .ensures) (c .before .before .before .before .before .pre .size)
-
-hubs-requires : tie.Need-hubs-requires
-hubs-requires c κs = search needs
-
-enum-told-3 : tie.Need-enum-told-3
-enum-told-3 c = search needs
-
-enum-told-4 : tie.Need-enum-told-4
-enum-told-4 c = search needs
 
 returns-2 : tie.Need-returns-2
 returns-2 c =
@@ -43,9 +25,6 @@ reach-requires c κs =
     (c .before .before .before .hubs .ensures)
     (c .before .before .before .before .before .before .before .before .before .pre)
 
-same-length : tie.Need-same-length
-same-length c = search needs
-
 returns-3 : tie.Need-returns-3
 returns-3 c =
     all-checked
@@ -59,14 +38,14 @@ pub check-spec : {M : Type 1} → statement M
 check-spec =
     tie.close
     (tie.spec
-    entries-requires
-    enum-told
-    enum-told-2
+    (λ c κs. search needs)
+    (λ c. search needs)
+    (λ c. search needs)
     returns
-    hubs-requires
-    enum-told-3
-    enum-told-4
+    (λ c κs. search needs)
+    (λ c. search needs)
+    (λ c. search needs)
     returns-2
     reach-requires
-    same-length
+    (λ c. search needs)
     returns-3)

@@ -4,17 +4,8 @@ use Rattle.site.proofs.HubSearch.{no-hub, two-hubs, one-hub}
 use Rattle.site.proofs.tree.hubs.Statement.{statement}
 use Rattle.site.proofs.tree.hubs.Tie as tie
 
-hub-requires : tie.Need-hub-requires
-hub-requires c κs = search needs
-
 returns : tie.Need-returns
 returns c = no-hub _ _ (c .before .hub .ensures) (c .if1 .taken)
-
-add-hub-from : tie.Need-add-hub-from
-add-hub-from c = search needs
-
-hub-from-requires : tie.Need-hub-from-requires
-hub-from-requires c κs = search needs
 
 returns-2 : tie.Need-returns-2
 returns-2 c = two-hubs _ _ (c .before .before .before .hub .ensures) _ (c .before .before .if1 .left) (c .before .hub-from .ensures) (c .if2 .taken)
@@ -24,4 +15,4 @@ returns-3 c = one-hub _ _ (c .before .before .before .hub .ensures) _ (c .before
 
 pub hubs-spec : {M : Type 1} → statement M
 hubs-spec =
-    tie.close (tie.spec hub-requires returns add-hub-from hub-from-requires returns-2 returns-3)
+    tie.close (tie.spec (λ c κs. search needs) returns (λ c. search needs) (λ c κs. search needs) returns-2 returns-3)

@@ -14,27 +14,6 @@ abbrev μ-loop : tie.MeasureT-loop
 loop-holds : tie.Need-loop-holds Inv-loop μ-loop
 loop-holds c = lay-start (c .pre)
 
-mul-if1 : tie.Need-mul-if1 Inv-loop μ-loop
-mul-if1 c = search needs
-
-slice-read-if1 : tie.Need-slice-read-if1 Inv-loop μ-loop
-slice-read-if1 c = search needs
-
-cast-known : tie.Need-cast-known Inv-loop μ-loop
-cast-known c = search needs
-
-mul-known : tie.Need-mul-known Inv-loop μ-loop
-mul-known c = search needs
-
-slice-write-known : tie.Need-slice-write-known Inv-loop μ-loop
-slice-write-known c = search needs
-
-mul-x : tie.Need-mul-x Inv-loop μ-loop
-mul-x c = search needs
-
-shared-slice-read-x : tie.Need-shared-slice-read-x Inv-loop μ-loop
-shared-slice-read-x c = search needs
-
 cast-x : tie.Need-cast-x Inv-loop μ-loop
 cast-x c = omega (arith, c .shared-slice-known .given (c .before .before .before .loop .x))
 
@@ -47,9 +26,6 @@ loop-less c = omega (arith, lay-deep (c .before .if1 .taken) (c .before .before 
 loop-again : tie.Need-loop-again Inv-loop μ-loop
 loop-again c = lay-next (c .before .before .before .before .pre) (c .before .if1 .taken) (c .before .before .before .loop .inv)
 
-same-length : tie.Need-same-length Inv-loop μ-loop
-same-length c = search needs
-
 returns : tie.Need-returns Inv-loop μ-loop
 returns c = lay-end (c .if1 .left) (c .before .before .loop .inv)
 
@@ -60,16 +36,16 @@ lay-spec =
     Inv-loop
     μ-loop
     loop-holds
-    mul-if1
-    slice-read-if1
-    cast-known
-    mul-known
-    slice-write-known
-    mul-x
-    shared-slice-read-x
+    (λ c. search needs)
+    (λ c. search needs)
+    (λ c. search needs)
+    (λ c. search needs)
+    (λ c. search needs)
+    (λ c. search needs)
+    (λ c. search needs)
     cast-x
     sub-d
     loop-less
     loop-again
-    same-length
+    (λ c. search needs)
     returns)

@@ -13,12 +13,6 @@ Inv-loop up known₀ top v₀ known v = Reaching up known v
 abbrev μ-loop : tie.MeasureT-loop
 μ-loop up known₀ top v₀ known v = length up - v
 
-blank-requires : tie.Need-blank-requires Inv-loop μ-loop
-blank-requires c κs = search needs
-
-hub-requires : tie.Need-hub-requires Inv-loop μ-loop
-hub-requires c κs = search needs
-
 mul-known : tie.Need-mul-known Inv-loop μ-loop
 mul-known c = omega arith
 
@@ -39,9 +33,6 @@ until-requires c κs =
     (c .before .before .loop .inv)
     (omega arith)
 
-same-length : tie.Need-same-length Inv-loop μ-loop
-same-length c = search needs
-
 returns : tie.Need-returns Inv-loop μ-loop
 returns c =
     reach-stray
@@ -50,12 +41,6 @@ returns c =
     (omega arith)
     (c .if1 .taken)
     (c .before .until .ensures)
-
-mul-depth : tie.Need-mul-depth Inv-loop μ-loop
-mul-depth c = search needs
-
-slice-read-depth : tie.Need-slice-read-depth Inv-loop μ-loop
-slice-read-depth c = search needs
 
 cast-depth : tie.Need-cast-depth Inv-loop μ-loop
 cast-depth c = omega (arith, c .slice-known3 .given (c .before .before .until .result .at))
@@ -72,21 +57,12 @@ lay-requires c κs =
     (c .before .before .if1 .left)
     (c .before .before .before .until .ensures)
 
-add-v : tie.Need-add-v Inv-loop μ-loop
-add-v c = search needs
-
-loop-less : tie.Need-loop-less Inv-loop μ-loop
-loop-less c = search needs
-
 loop-again : tie.Need-loop-again Inv-loop μ-loop
 loop-again c =
     reach-next
     (omega arith)
     (c .before .before .lay .ensures)
     (c .before .before .before .before .before .before .before .before .before .loop .inv)
-
-same-length-2 : tie.Need-same-length-2 Inv-loop μ-loop
-same-length-2 c = search needs
 
 returns-2 : tie.Need-returns-2 Inv-loop μ-loop
 returns-2 c = reach-end (c .before .before .before .before .before .before .before .before .before .pre) (c .before .loop .inv) (omega arith)
@@ -97,21 +73,21 @@ reach-spec =
     (tie.spec
     Inv-loop
     μ-loop
-    blank-requires
-    hub-requires
+    (λ c κs. search needs)
+    (λ c κs. search needs)
     mul-known
     slice-write-known
     loop-holds
     until-requires
-    same-length
+    (λ c. search needs)
     returns
-    mul-depth
-    slice-read-depth
+    (λ c. search needs)
+    (λ c. search needs)
     cast-depth
     add-depth
     lay-requires
-    add-v
-    loop-less
+    (λ c. search needs)
+    (λ c. search needs)
     loop-again
-    same-length-2
+    (λ c. search needs)
     returns-2)

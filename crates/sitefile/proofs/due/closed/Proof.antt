@@ -6,9 +6,6 @@ use borrow.Author.Needs.{needs}
 use Rattle.sitefile.proofs.due.closed.Statement.{statement}
 use Rattle.sitefile.proofs.due.closed.Tie as tie
 
-whole-requires : tie.Need-whole-requires
-whole-requires c κs = search needs
-
 returns : tie.Need-returns
 unfolding isClosed
 returns c = rw (sym (c .before .whole .ensures) ∙ not-true _ (c .if1 .taken))
@@ -18,4 +15,4 @@ unfolding isClosed
 returns-2 c = rw (sym (c .before .whole .ensures) ∙ not-false _ (c .if1 .left))
 
 pub closed-spec : {M : Type 1} → statement M
-closed-spec = tie.close (tie.spec whole-requires returns returns-2)
+closed-spec = tie.close (tie.spec (λ c κs. search needs) returns returns-2)

@@ -7,12 +7,6 @@ use borrow.Author.Needs.{needs}
 use Rattle.sitefile.proofs.due.in_place.Statement.{statement}
 use Rattle.sitefile.proofs.due.in_place.Tie as tie
 
-closed-requires : tie.Need-closed-requires
-closed-requires c κs = search needs
-
-whole-requires : tie.Need-whole-requires
-whole-requires c κs = search needs
-
 returns : tie.Need-returns
 unfolding placed
 returns c = rw (c .match .keys1)
@@ -31,4 +25,4 @@ returns-4 c = ⊎-elim (λ w. rw (w .keys4) (c .whole .ensures)) (λ w. c .whole
 
 pub in-place-spec : {M : Type 1} → statement M
 in-place-spec =
-    tie.close (tie.spec closed-requires whole-requires returns returns-2 returns-3 returns-4)
+    tie.close (tie.spec (λ c κs. search needs) (λ c κs. search needs) returns returns-2 returns-3 returns-4)

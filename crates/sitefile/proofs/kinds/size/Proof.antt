@@ -4,27 +4,15 @@ use borrow.Author.Needs.{needs}
 use Rattle.sitefile.proofs.kinds.size.Statement.{statement}
 use Rattle.sitefile.proofs.kinds.size.Tie as tie
 
-body-requires : tie.Need-body-requires
-body-requires c κs = search needs
-
-word-requires : tie.Need-word-requires
-word-requires c κs = search needs
-
-cast-n : tie.Need-cast-n
-cast-n c = search needs
-
 returns : tie.Need-returns
 returns c = size-none _ _ _ (number-in 0 (c .before .before .body .ensures) (c .before .word .ensures)) (c .if1 .taken)
 
 returns-2 : tie.Need-returns-2
 returns-2 c = size-many _ _ _ (number-in 0 (c .before .before .before .body .ensures) (c .before .before .word .ensures)) (c .if2 .taken)
 
-add-t8 : tie.Need-add-t8
-add-t8 c = search needs
-
 returns-3 : tie.Need-returns-3
 returns-3 c = size-read _ _ _ (number-in 0 (c .before .before .before .body .ensures) (c .before .before .word .ensures)) (c .before .if1 .left) (c .if2 .left)
 
 pub size-spec : {M : Type 1} → statement M
 size-spec =
-    tie.close (tie.spec body-requires word-requires cast-n returns returns-2 add-t8 returns-3)
+    tie.close (tie.spec (λ c κs. search needs) (λ c κs. search needs) (λ c. search needs) returns returns-2 (λ c. search needs) returns-3)

@@ -9,35 +9,14 @@ use Rattle.sitefile.proofs.kinds.start.Tie as tie
 slice-aggregate-start : tie.Need-slice-aggregate-start
 slice-aggregate-start c = sym (length-take-le _ _ (c .before .before .before .before .before .pre .fronts .in-up))
 
-slice-relend-prefix-start : tie.Need-slice-relend-prefix-start
-slice-relend-prefix-start c = search needs
-
 slice-aggregate-start-2 : tie.Need-slice-aggregate-start-2
 slice-aggregate-start-2 c = sym (length-take-le _ _ (c .before .before .before .before .before .before .pre .fronts .in-depth))
-
-slice-relend-prefix-start-2 : tie.Need-slice-relend-prefix-start-2
-slice-relend-prefix-start-2 c = search needs
 
 slice-aggregate-start-3 : tie.Need-slice-aggregate-start-3
 slice-aggregate-start-3 c = sym (length-take-le _ _ (c .before .before .before .before .before .before .before .pre .fronts .in-group))
 
-slice-relend-prefix-start-3 : tie.Need-slice-relend-prefix-start-3
-slice-relend-prefix-start-3 c = search needs
-
 slice-aggregate-start-4 : tie.Need-slice-aggregate-start-4
 slice-aggregate-start-4 c = sym (length-take-le _ _ (c .before .before .before .before .before .before .before .before .pre .fronts .in-mark))
-
-start-requires : tie.Need-start-requires
-start-requires c κs = search needs
-
-same-length : tie.Need-same-length
-same-length c = search needs
-
-same-length-2 : tie.Need-same-length-2
-same-length-2 c = search needs
-
-same-length-3 : tie.Need-same-length-3
-same-length-3 c = search needs
 
 returns : tie.Need-returns
 returns c = let p = c .before .before .before .before .before .before .before .before .before .before .before .before .before .before .before .pre in
@@ -48,14 +27,14 @@ start-spec =
     tie.close
     (tie.spec
     slice-aggregate-start
-    slice-relend-prefix-start
+    (λ c. search needs)
     slice-aggregate-start-2
-    slice-relend-prefix-start-2
+    (λ c. search needs)
     slice-aggregate-start-3
-    slice-relend-prefix-start-3
+    (λ c. search needs)
     slice-aggregate-start-4
-    start-requires
-    same-length
-    same-length-2
-    same-length-3
+    (λ c κs. search needs)
+    (λ c. search needs)
+    (λ c. search needs)
+    (λ c. search needs)
     returns)

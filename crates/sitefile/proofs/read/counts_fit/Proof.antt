@@ -13,9 +13,6 @@ returns-2 : tie.Need-returns-2
 unfolding countsFit
 returns-2 c = rw (le-leb _ _ (c .before .if1 .left), lt-leb _ _ (c .if2 .taken))
 
-mul-if3 : tie.Need-mul-if3
-mul-if3 c = search needs
-
 returns-3 : tie.Need-returns-3
 unfolding countsFit
 returns-3 c = rw (le-leb _ _ (c .before .before .if1 .left), le-leb _ _ (c .before .if2 .left), lt-leb _ _ (c .if3 .taken))
@@ -25,4 +22,4 @@ unfolding countsFit
 returns-4 c = rw (le-leb _ _ (c .before .before .if1 .left), le-leb _ _ (c .before .if2 .left), le-leb _ _ (c .if3 .left))
 
 pub counts-fit-spec : {M : Type 1} → statement M
-counts-fit-spec = tie.close (tie.spec returns returns-2 mul-if3 returns-3 returns-4)
+counts-fit-spec = tie.close (tie.spec returns returns-2 (λ c. search needs) returns-3 returns-4)

@@ -5,17 +5,11 @@ use borrow.Author.Needs.{needs}
 use Rattle.sitefile.proofs.read.fits.Statement.{statement}
 use Rattle.sitefile.proofs.read.fits.Tie as tie
 
-lengths-fit-requires : tie.Need-lengths-fit-requires
-lengths-fit-requires c κs = search needs
-
 returns : tie.Need-returns
 returns c = rw (sym (c .before .lengths-fit .ensures) ∙ not-true _ (c .if1 .taken))
-
-counts-fit-requires : tie.Need-counts-fit-requires
-counts-fit-requires c κs = search needs
 
 returns-2 : tie.Need-returns-2
 returns-2 c = rw (sym (c .before .before .lengths-fit .ensures) ∙ not-false _ (c .before .if1 .left)) (c .counts-fit .ensures)
 
 pub fits-spec : {M : Type 1} → statement M
-fits-spec = tie.close (tie.spec lengths-fit-requires returns counts-fit-requires returns-2)
+fits-spec = tie.close (tie.spec (λ c κs. search needs) returns (λ c κs. search needs) returns-2)

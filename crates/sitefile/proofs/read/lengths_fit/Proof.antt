@@ -21,9 +21,6 @@ returns-4 : tie.Need-returns-4
 unfolding lengthsFit
 returns-4 c = rw (eq-eqb _ _ (c .before .before .before .if1 .left), eq-eqb _ _ (c .before .before .if2 .left), eq-eqb _ _ (c .before .if3 .left), ne-eqb _ _ (c .if4 .taken))
 
-mul-if5 : tie.Need-mul-if5
-mul-if5 c = search needs
-
 returns-5 : tie.Need-returns-5
 unfolding lengthsFit
 returns-5 c = rw (eq-eqb _ _ (c .before .before .before .before .if1 .left), eq-eqb _ _ (c .before .before .before .if2 .left), eq-eqb _ _ (c .before .before .if3 .left), eq-eqb _ _ (c .before .if4 .left), ne-eqb _ _ (c .if5 .taken))
@@ -39,4 +36,4 @@ returns-7 c = rw (eq-eqb _ _ (c .before .before .before .before .before .if1 .le
 pub lengths-fit-spec : {M : Type 1} → statement M
 lengths-fit-spec =
     tie.close
-    (tie.spec returns returns-2 returns-3 returns-4 mul-if5 returns-5 returns-6 returns-7)
+    (tie.spec returns returns-2 returns-3 returns-4 (λ c. search needs) returns-5 returns-6 returns-7)

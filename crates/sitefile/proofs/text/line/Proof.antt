@@ -18,9 +18,6 @@ field-requires-2 c κs = let a = c .before .before .before .before .before .befo
 put-requires-2 : tie.Need-put-requires-2
 put-requires-2 c κs = let a = c .before .before .before .before .before .before .before .before .before .before .before .before .before .before .args in room-end (a .out .now) (a .at) (a .letter) (a .a) (a .b) (c .before .before .before .before .before .before .before .before .before .before .before .before .before .before .pre) (c .before .before .before .before .before .before .before .before .before .before .before .put .ensures) (c .before .before .before .before .before .before .before .field .ensures) (c .before .before .before .field2 .ensures)
 
-same-length : tie.Need-same-length
-same-length c = search needs
-
 returns : tie.Need-returns
 unfolding line
 returns c = then (c .before .before .before .before .before .before .before .before .before .before .before .before .before .before .put .ensures) (then (c .before .before .before .before .before .before .before .before .before .before .field .ensures) (then (c .before .before .before .before .before .before .field2 .ensures) (c .before .before .put2 .ensures)))
@@ -28,4 +25,4 @@ returns c = then (c .before .before .before .before .before .before .before .bef
 pub line-spec : {M : Type 1} → statement M
 line-spec =
     tie.close
-    (tie.spec put-requires field-requires field-requires-2 put-requires-2 same-length returns)
+    (tie.spec put-requires field-requires field-requires-2 put-requires-2 (λ c. search needs) returns)

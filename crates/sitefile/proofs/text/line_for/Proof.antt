@@ -12,11 +12,8 @@ returns c = let a = c .before .before .args in no-line (a .out .now) (a .at) (a 
 line-requires : tie.Need-line-requires
 line-requires c κs = let a = c .before .before .before .args in room-reworded (a .at) _ (sym (a-line (a .byte) (a .letter) (a .a) (a .b) (c .before .if1 .left))) (c .before .before .before .pre)
 
-same-length : tie.Need-same-length
-same-length c = search needs
-
 returns-2 : tie.Need-returns-2
 returns-2 c = let a = c .before .before .before .before .before .before .args in reworded (a-line (a .byte) (a .letter) (a .a) (a .b) (c .before .before .before .before .if1 .left)) (c .before .before .line .ensures)
 
 pub line-for-spec : {M : Type 1} → statement M
-line-for-spec = tie.close (tie.spec returns line-requires same-length returns-2)
+line-for-spec = tie.close (tie.spec returns line-requires (λ c. search needs) returns-2)

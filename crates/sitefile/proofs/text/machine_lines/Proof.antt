@@ -18,20 +18,11 @@ abbrev μ-loop : tie.MeasureT-loop
 loop-holds : tie.Need-loop-holds Inv-loop μ-loop
 loop-holds c = start _ _ _ _
 
-shared-slice-read-byte : tie.Need-shared-slice-read-byte Inv-loop μ-loop
-shared-slice-read-byte c = search needs
-
 cast-line-for : tie.Need-cast-line-for Inv-loop μ-loop
 cast-line-for c = omega (arith, c .before .shared-slice-known2 .given (c .before .before .before .loop .k))
 
 line-for-requires : tie.Need-line-for-requires Inv-loop μ-loop
 line-for-requires c κs = let a = c .before .before .before .before .before .before .args in room (room-reworded (a .at) (length (a .out .now)) (machine-pieces (a .machines .now) 0 (length (a .machines .now))) (c .before .before .before .before .before .before .pre)) (c .before .before .loop-test .taken) (c .before .before .before .loop .inv)
-
-add-k : tie.Need-add-k Inv-loop μ-loop
-add-k c = search needs
-
-loop-less : tie.Need-loop-less Inv-loop μ-loop
-loop-less c = search needs
 
 loop-again : tie.Need-loop-again Inv-loop μ-loop
 loop-again c = next (c .before .before .before .before .before .loop-test .taken) (c .before .before .line-for .ensures) (c .before .before .before .before .before .before .loop .inv)
@@ -49,11 +40,11 @@ machine-lines-spec =
     Inv-loop
     μ-loop
     loop-holds
-    shared-slice-read-byte
+    (λ c. search needs)
     cast-line-for
     line-for-requires
-    add-k
-    loop-less
+    (λ c. search needs)
+    (λ c. search needs)
     loop-again
     same-length
     returns)

@@ -21,20 +21,8 @@ abbrev μ-loop : tie.MeasureT-loop
 loop-holds : tie.Need-loop-holds Inv-loop μ-loop
 loop-holds c = counted-none _ _
 
-shared-slice-read-one-for : tie.Need-shared-slice-read-one-for Inv-loop μ-loop
-shared-slice-read-one-for c = search needs
-
-one-for-requires : tie.Need-one-for-requires Inv-loop μ-loop
-one-for-requires c κs = search needs
-
 add-sum : tie.Need-add-sum Inv-loop μ-loop
 add-sum c = let q = counted-more (c .before .before .before .loop .inv) (c .before .before .loop-test .taken) refl (c .one-for .ensures) in omega arith
-
-add-k : tie.Need-add-k Inv-loop μ-loop
-add-k c = search needs
-
-loop-less : tie.Need-loop-less Inv-loop μ-loop
-loop-less c = search needs
 
 loop-again : tie.Need-loop-again Inv-loop μ-loop
 loop-again c = counted-more (c .before .before .before .loop .inv) (c .before .before .loop-test .taken) refl (c .one-for .ensures)
@@ -50,10 +38,10 @@ named-spec =
     Inv-loop
     μ-loop
     loop-holds
-    shared-slice-read-one-for
-    one-for-requires
+    (λ c. search needs)
+    (λ c κs. search needs)
     add-sum
-    add-k
-    loop-less
+    (λ c. search needs)
+    (λ c. search needs)
     loop-again
     returns)

@@ -16,12 +16,9 @@ returns c = rw (lt-leb 64 (length (c .before .before .args .out .now)) (c .if1 .
 line-requires : tie.Need-line-requires
 line-requires c κs = omega (arith, any-line 82 (c .before .before .before .args .code) (c .before .before .before .args .value), c .before .if1 .left)
 
-same-length : tie.Need-same-length
-same-length c = search needs
-
 returns-2 : tie.Need-returns-2
 unfolding refusalWritten
 returns-2 c = rw (le-leb 64 (length (c .before .before .before .before .before .before .args .out .now)) (c .before .before .before .before .if1 .left)) (over-front (omega (arith, any-line 82 (c .before .before .before .before .before .before .args .code) (c .before .before .before .before .before .before .args .value), c .before .before .before .before .if1 .left)) (c .before .before .line .ensures))
 
 pub refusal-text-spec : {M : Type 1} → statement M
-refusal-text-spec = tie.close (tie.spec returns line-requires same-length returns-2)
+refusal-text-spec = tie.close (tie.spec returns line-requires (λ c. search needs) returns-2)

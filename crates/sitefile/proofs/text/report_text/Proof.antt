@@ -7,9 +7,6 @@ use Rattle.sitefile.proofs.Reporting.{unfit, room-machines, room-uplink
 use Rattle.sitefile.proofs.text.report_text.Statement.{statement}
 use Rattle.sitefile.proofs.text.report_text.Tie as tie
 
-fits-requires : tie.Need-fits-requires
-fits-requires c κs = search needs
-
 returns : tie.Need-returns
 returns c = let a = c .before .before .before .before .before .before .args in unfit (a .up .now) (a .machines .now) (a .links .now) (a .out .now) (sym (c .before .fits2 .ensures) ∙ not-true _ (c .if1 .taken))
 
@@ -22,9 +19,6 @@ uplink-lines-requires c κs = let a = c .before .before .before .before .before 
 totals-requires : tie.Need-totals-requires
 totals-requires c κs = let a = c .before .before .before .before .before .before .before .before .before .before .before .before .before .before .before .args in room-totals (a .up .now) (a .machines .now) (a .links .now) (a .out .now) (sym (c .before .before .before .before .before .before .before .before .before .before .fits2 .ensures) ∙ not-false _ (c .before .before .before .before .before .before .before .before .before .if1 .left)) (λ i. omega (arith, c .before .before .before .before .before .before .before .before .before .before .before .before .before .shared-slice-known2 .given i)) (λ i. omega (arith, c .before .before .before .before .before .before .before .before .before .before .before .before .before .before .shared-slice-known .given i)) (c .before .before .before .before .before .before .before .machine-lines .ensures) (c .before .before .before .uplink-lines .ensures)
 
-same-length : tie.Need-same-length
-same-length c = search needs
-
 returns-2 : tie.Need-returns-2
 returns-2 c = let a = c .before .before .before .before .before .before .before .before .before .before .before .before .before .before .before .before .before .before .args in reported (a .up .now) (a .machines .now) (a .links .now) (a .out .now) (sym (c .before .before .before .before .before .before .before .before .before .before .before .before .before .fits2 .ensures) ∙ not-false _ (c .before .before .before .before .before .before .before .before .before .before .before .before .if1 .left)) (λ i. omega (arith, c .before .before .before .before .before .before .before .before .before .before .before .before .before .before .before .before .shared-slice-known2 .given i)) (λ i. omega (arith, c .before .before .before .before .before .before .before .before .before .before .before .before .before .before .before .before .before .shared-slice-known .given i)) (c .before .before .before .before .before .before .before .before .before .before .machine-lines .ensures) (c .before .before .before .before .before .before .uplink-lines .ensures) (c .before .before .totals .ensures)
 
@@ -32,10 +26,10 @@ pub report-text-spec : {M : Type 1} → statement M
 report-text-spec =
     tie.close
     (tie.spec
-    fits-requires
+    (λ c κs. search needs)
     returns
     machine-lines-requires
     uplink-lines-requires
     totals-requires
-    same-length
+    (λ c. search needs)
     returns-2)

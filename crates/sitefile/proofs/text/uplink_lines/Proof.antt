@@ -18,26 +18,11 @@ abbrev μ-loop : tie.MeasureT-loop
 loop-holds : tie.Need-loop-holds Inv-loop μ-loop
 loop-holds c = start _ _ _ _
 
-shared-slice-read-byte : tie.Need-shared-slice-read-byte Inv-loop μ-loop
-shared-slice-read-byte c = search needs
-
-mul-above : tie.Need-mul-above Inv-loop μ-loop
-mul-above c = search needs
-
-shared-slice-read-above : tie.Need-shared-slice-read-above Inv-loop μ-loop
-shared-slice-read-above c = search needs
-
 cast-above : tie.Need-cast-above Inv-loop μ-loop
 cast-above c = omega (arith, c .shared-slice-known4 .given (c .before .before .before .loop .k))
 
 line-for-requires : tie.Need-line-for-requires Inv-loop μ-loop
 line-for-requires c κs = let a = c .before .before .before .before .before .before .before .before .args in room (room-reworded (a .at) (length (a .out .now)) (uplink-pieces (a .up .now) (a .links .now) 0 (length (a .links .now))) (c .before .before .before .before .before .before .before .before .pre .room)) (c .before .before .before .loop-test .taken) (c .before .before .before .before .loop .inv)
-
-add-k : tie.Need-add-k Inv-loop μ-loop
-add-k c = search needs
-
-loop-less : tie.Need-loop-less Inv-loop μ-loop
-loop-less c = search needs
 
 loop-again : tie.Need-loop-again Inv-loop μ-loop
 loop-again c = next (c .before .before .before .before .before .before .loop-test .taken) (c .before .before .line-for .ensures) (c .before .before .before .before .before .before .before .loop .inv)
@@ -55,13 +40,13 @@ uplink-lines-spec =
     Inv-loop
     μ-loop
     loop-holds
-    shared-slice-read-byte
-    mul-above
-    shared-slice-read-above
+    (λ c. search needs)
+    (λ c. search needs)
+    (λ c. search needs)
     cast-above
     line-for-requires
-    add-k
-    loop-less
+    (λ c. search needs)
+    (λ c. search needs)
     loop-again
     same-length
     returns)
