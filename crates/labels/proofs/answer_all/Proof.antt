@@ -3,7 +3,6 @@ use mathlib.Core.Path.{_≡_}
 use lib.ListN.{length}
 use Rattle.printer.proofs.Lengths.{Kept}
 use borrow.Author.Needs.{needs}
-use native.Mathlib.Omega.{arith}
 use Rattle.labels.proofs.answer_all.Statement.{statement}
 use Rattle.labels.proofs.answer_all.Tie as tie
 

@@ -1,13 +1,11 @@
 -- `answer_one` is safe: the part is no longer than what was read.
-use mathlib.Core.Path.{sym}
 use lib.Seq.{length-take-le}
-use native.Mathlib.Omega.{arith}
 use borrow.Author.Needs.{needs}
 use Rattle.labels.proofs.answer_one.Statement.{statement}
 use Rattle.labels.proofs.answer_one.Tie as tie
 
 slice-aggregate-print-file : tie.Need-slice-aggregate-print-file
-slice-aggregate-print-file c = sym (length-take-le _ _ (c .before .if1 .left))
+slice-aggregate-print-file c = search length-take-le
 
 pub answer-one-spec : {M : Type 1} → statement M
 answer-one-spec =

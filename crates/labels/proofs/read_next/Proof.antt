@@ -1,13 +1,11 @@
 -- `read_next` is safe: the part is no longer than the room.
-use mathlib.Core.Path.{sym}
 use lib.Seq.{length-take-le}
-use native.Mathlib.Omega.{arith}
 use borrow.Author.Needs.{needs}
 use Rattle.labels.proofs.read_next.Statement.{statement}
 use Rattle.labels.proofs.read_next.Tie as tie
 
 slice-aggregate-read-full : tie.Need-slice-aggregate-read-full
-slice-aggregate-read-full c = sym (length-take-le _ _ (c .before .if1 .left))
+slice-aggregate-read-full c = search length-take-le
 
 pub read-next-spec : {M : Type 1} → statement M
 read-next-spec =

@@ -2,7 +2,6 @@
 use mathlib.Core.Path.{_∙_}
 use Rattle.printer.proofs.Lengths.{Kept}
 use borrow.Author.Needs.{needs}
-use native.Mathlib.Omega.{arith}
 use Rattle.printer.proofs.print_file.Statement.{statement}
 use Rattle.printer.proofs.print_file.Tie as tie
 

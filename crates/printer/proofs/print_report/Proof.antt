@@ -1,19 +1,17 @@
 -- `print_report` is safe: the parts are no longer than their slices.
-use mathlib.Core.Path.{sym}
 use lib.Seq.{length-take-le}
-use native.Mathlib.Omega.{arith}
 use borrow.Author.Needs.{needs}
 use Rattle.printer.proofs.print_report.Statement.{statement}
 use Rattle.printer.proofs.print_report.Tie as tie
 
 slice-aggregate-report-text : tie.Need-slice-aggregate-report-text
-slice-aggregate-report-text c = sym (length-take-le _ _ (c .before .before .before .if1 .left))
+slice-aggregate-report-text c = search length-take-le
 
 slice-aggregate-report-text-2 : tie.Need-slice-aggregate-report-text-2
-slice-aggregate-report-text-2 c = sym (length-take-le _ _ (c .before .before .before .if2 .left))
+slice-aggregate-report-text-2 c = search length-take-le
 
 slice-aggregate-report-text-3 : tie.Need-slice-aggregate-report-text-3
-slice-aggregate-report-text-3 c = sym (length-take-le _ _ (c .before .before .before .if3 .left))
+slice-aggregate-report-text-3 c = search length-take-le
 
 pub print-report-spec : {M : Type 1} → statement M
 print-report-spec =

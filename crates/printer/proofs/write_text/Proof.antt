@@ -1,13 +1,11 @@
 -- `write_text` is safe: the part is no longer than the text.
-use mathlib.Core.Path.{sym}
 use lib.Seq.{length-take-le}
-use native.Mathlib.Omega.{arith}
 use borrow.Author.Needs.{needs}
 use Rattle.printer.proofs.write_text.Statement.{statement}
 use Rattle.printer.proofs.write_text.Tie as tie
 
 slice-aggregate-write-all : tie.Need-slice-aggregate-write-all
-slice-aggregate-write-all c = sym (length-take-le _ _ (c .before .if1 .taken))
+slice-aggregate-write-all c = search length-take-le
 
 pub write-text-spec : {M : Type 1} → statement M
 write-text-spec =

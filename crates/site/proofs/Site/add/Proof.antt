@@ -1,13 +1,12 @@
 -- `Site::add`: each check that refuses is the answer; once all have passed, the tables are those of a history and the batch is applied.
 use Rattle.site.proofs.Answers.{sizes-of, told}
 use Rattle.site.proofs.Adding.{add-lengths, add-tables, add-batch, add-ready, add-done}
-use native.Mathlib.Omega.{arith}
 use borrow.Author.Needs.{needs}
 use Rattle.site.proofs.Site.add.Statement.{statement}
 use Rattle.site.proofs.Site.add.Tie as tie
 
 returns : tie.Need-returns
-returns c = add-lengths _ _ _ _ _ (c .before .before .before .sizes .ensures) (c .before .enum-told2 .given .1) (c .refusal .ensures)
+returns c = search add-lengths
 
 tables-requires : tie.Need-tables-requires
 tables-requires c κs = sizes-of _ _ _ _ (told (c .before .before .before .enum-told .given .1) (c .before .before .before .before .before .sizes .ensures))

@@ -1,13 +1,12 @@
 -- `Site::report`: each check that refuses is the answer; once all have passed, the outputs are filled.
 use Rattle.site.proofs.Answers.{sizes-of, told}
 use Rattle.site.proofs.Reporting.{report-lengths, report-outputs, report-tables, report-ready, report-done}
-use native.Mathlib.Omega.{arith}
 use borrow.Author.Needs.{needs}
 use Rattle.site.proofs.Site.report.Statement.{statement}
 use Rattle.site.proofs.Site.report.Tie as tie
 
 returns : tie.Need-returns
-returns c = report-lengths _ _ _ _ _ _ (c .before .before .before .sizes .ensures) (c .before .enum-told2 .given .1) (c .refusal .ensures)
+returns c = search report-lengths
 
 returns-2 : tie.Need-returns-2
 returns-2 c = report-outputs _ _ _ _ _ _ (c .before .before .before .before .before .before .sizes .ensures) (c .before .before .before .before .enum-told .given .1) (c .before .before .before .outputs .ensures) (c .before .enum-told4 .given .1) (c .refusal2 .ensures)
@@ -22,7 +21,7 @@ fill-requires : tie.Need-fill-requires
 fill-requires c κs = report-ready _ (told (c .before .before .before .before .before .before .before .before .before .enum-told .given .1) (c .before .before .before .before .before .before .before .before .before .before .before .sizes .ensures)) (told (c .before .before .before .before .before .before .enum-told3 .given .1) (c .before .before .before .before .before .before .before .before .outputs .ensures)) (c .before .before .hub .ensures)
 
 returns-4 : tie.Need-returns-4
-returns-4 c = report-done _ _ _ _ _ _ (c .before .before .before .before .before .before .before .before .before .before .before .before .before .before .before .before .sizes .ensures) (c .before .before .before .before .before .before .before .before .before .before .before .before .before .before .enum-told .given .1) (c .before .before .before .before .before .before .before .before .before .before .before .before .before .outputs .ensures) (c .before .before .before .before .before .before .before .before .before .before .before .enum-told3 .given .1) (c .before .before .before .before .before .before .before .before .before .before .tables .ensures) (c .before .before .before .before .before .before .before .before .enum-told5 .given .1) (c .before .before .before .before .fill .ensures)
+returns-4 c = search report-done
 
 pub report-spec : {M : Type 1} → statement M
 report-spec =

@@ -11,7 +11,7 @@ use Rattle.site.proofs.Site.start.Statement.{statement}
 use Rattle.site.proofs.Site.start.Tie as tie
 
 returns : tie.Need-returns
-returns c = start-lengths _ _ _ _ (c .before .before .before .sizes .ensures) (c .before .enum-told2 .given .1) (c .refusal .ensures)
+returns c = search start-lengths
 
 array-borrow-prefix-known : tie.Need-array-borrow-prefix-known
 array-borrow-prefix-known c = sizes-of _ _ _ _ (told (c .enum-told .given .1) (c .before .before .sizes .ensures)) .few
@@ -24,13 +24,13 @@ check-requires c κs = let few = sizes-of _ _ _ _ (told (c .before .enum-told .g
     record { few = few; size = length-take-le _ _ few }
 
 returns-2 : tie.Need-returns-2
-returns-2 c = start-tree _ _ _ _ (c .before .before .before .before .before .before .before .before .sizes .ensures) (c .before .before .before .before .before .before .enum-told .given .1) (c .before .before .before .before .check .ensures .verdict) (c .before .enum-told4 .given .1) (c .refusal2 .ensures)
+returns-2 c = search start-tree
 
 array-share-prefix-known : tie.Need-array-share-prefix-known
-array-share-prefix-known c = front-le _ (c .before .before .before .check .last .1 .0) (drop (length (c .before .before .before .before .before .before .before .before .before .before .before .before .args .up .now)) (replicate 4096 0)) (c .before .before .before .check .ensures .size)
+array-share-prefix-known c = search (front-le, drop, length, replicate)
 
 slice-aggregate-copy : tie.Need-slice-aggregate-copy
-slice-aggregate-copy c = front-size _ (c .before .before .before .before .check .last .1 .0) (drop (length (c .before .before .before .before .before .before .before .before .before .before .before .before .before .args .up .now)) (replicate 4096 0)) (c .before .before .before .before .check .ensures .size)
+slice-aggregate-copy c = search (front-size, drop, length, replicate)
 
 copy-requires : tie.Need-copy-requires
 copy-requires c κs = sizes-of _ _ _ _ (told (c .before .before .before .before .before .before .before .enum-told .given .1) (c .before .before .before .before .before .before .before .before .before .sizes .ensures)) .depth-size

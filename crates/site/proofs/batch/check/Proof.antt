@@ -6,10 +6,10 @@ use Rattle.site.proofs.batch.check.Statement.{statement}
 use Rattle.site.proofs.batch.check.Tie as tie
 
 returns : tie.Need-returns
-returns c = too-long _ _ (c .before .length-fits .ensures) (not-true _ (c .if1 .taken))
+returns c = search (too-long, not-true)
 
 returns-2 : tie.Need-returns-2
-returns-2 c = by-ends _ _ (c .before .before .length-fits .ensures) (not-false _ (c .before .if1 .left)) (c .ends .ensures)
+returns-2 c = search (by-ends, not-false)
 
 pub check-spec : {M : Type 1} → statement M
 check-spec = tie.close (tie.spec (λ c κs. search needs) returns (λ c κs. search needs) returns-2)

@@ -1,7 +1,6 @@
 -- `batch::ends`: the invariant: every link below i passed, so the verdict is that of the links from i on.
 use mathlib.Core.Path.{ap}
 use Prim.Native.Nat.{_*_, _-_}
-use native.Mathlib.Omega.{arith}
 use lib.ListN.{length}
 use borrow.Author.Needs.{needs}
 use Rattle.site.specs.Check.{verdictOf}
@@ -18,12 +17,6 @@ abbrev μ-loop : tie.MeasureT-loop
 loop-holds : tie.Need-loop-holds Inv-loop μ-loop
 loop-holds c = passed-none _ _
 
-mul-loop : tie.Need-mul-loop Inv-loop μ-loop
-mul-loop c = omega (arith, c .loop .inv .low)
-
-add-loop : tie.Need-add-loop Inv-loop μ-loop
-add-loop c = omega (arith, c .loop .inv .low)
-
 returns : tie.Need-returns Inv-loop μ-loop
 returns c = let l = c .before .before .before .before .before .before .loop in
     refused (l .inv) (c .before .before .before .before .before .loop-test .taken) (c .before .before .before .before .at .ensures) (c .before .before .before .at2 .ensures) (c .before .before .link .ensures)
@@ -35,7 +28,7 @@ loop-again c = let l = c .before .before .before .before .before .before .loop i
     (ap verdictOf (c .enum-told .given .1))
 
 returns-2 : tie.Need-returns-2 Inv-loop μ-loop
-returns-2 c = passed-all (c .before .loop .inv) (c .loop-test .left)
+returns-2 c = search passed-all
 
 pub ends-spec : {M : Type 1} → statement M
 ends-spec =
@@ -44,8 +37,8 @@ ends-spec =
     Inv-loop
     μ-loop
     loop-holds
-    mul-loop
-    add-loop
+    (λ c. search needs)
+    (λ c. search needs)
     (λ c. search needs)
     (λ c κs. search needs)
     (λ c. search needs)

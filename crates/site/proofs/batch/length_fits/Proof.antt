@@ -5,10 +5,10 @@ use Rattle.site.proofs.batch.length_fits.Statement.{statement}
 use Rattle.site.proofs.batch.length_fits.Tie as tie
 
 returns : tie.Need-returns
-returns c = rw (eq-eqb _ _ (c .if1 .taken))
+returns c = search eq-eqb
 
 returns-2 : tie.Need-returns-2
-returns-2 c = rw (ne-eqb _ _ (c .if1 .left))
+returns-2 c = search ne-eqb
 
 pub length-fits-spec : {M : Type 1} → statement M
 length-fits-spec = tie.close (tie.spec (λ c. search needs) returns returns-2)

@@ -6,19 +6,19 @@ use Rattle.site.proofs.batch.link.Tie as tie
 
 returns : tie.Need-returns
 unfolding endsVerdict
-returns c = rw (le-leb _ _ (c .if1 .taken))
+returns c = search le-leb
 
 returns-2 : tie.Need-returns-2
 unfolding endsVerdict
-returns-2 c = rw (lt-leb _ _ (c .before .if1 .left), le-leb _ _ (c .if2 .taken))
+returns-2 c = search (lt-leb, le-leb)
 
 returns-3 : tie.Need-returns-3
 unfolding endsVerdict
-returns-3 c = rw (lt-leb _ _ (c .before .before .if1 .left), lt-leb _ _ (c .before .if2 .left), eq-eqb _ _ (c .if3 .taken))
+returns-3 c = search (lt-leb, eq-eqb)
 
 returns-4 : tie.Need-returns-4
 unfolding endsVerdict
-returns-4 c = rw (lt-leb _ _ (c .before .before .if1 .left), lt-leb _ _ (c .before .if2 .left), ne-eqb _ _ (c .if3 .left))
+returns-4 c = search (lt-leb, ne-eqb)
 
 pub link-spec : {M : Type 1} → statement M
 link-spec = tie.close (tie.spec returns returns-2 returns-3 returns-4)

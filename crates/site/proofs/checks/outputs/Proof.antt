@@ -7,15 +7,15 @@ use Rattle.site.proofs.checks.outputs.Tie as tie
 
 returns : tie.Need-returns
 unfolding outputsVerdict checks
-returns c = simp (ne-eqb _ _ (c .if1 .taken))
+returns c = search ne-eqb
 
 returns-2 : tie.Need-returns-2
 unfolding outputsVerdict checks
-returns-2 c = simp (eq-eqb _ _ (c .before .if1 .left), ne-eqb _ _ (c .if2 .taken))
+returns-2 c = search (eq-eqb, ne-eqb)
 
 returns-3 : tie.Need-returns-3
 unfolding outputsVerdict checks
-returns-3 c = simp (eq-eqb _ _ (c .before .if1 .left), eq-eqb _ _ (c .if2 .left))
+returns-3 c = search eq-eqb
 
 pub outputs-spec : {M : Type 1} → statement M
 outputs-spec = tie.close (tie.spec returns returns-2 returns-3)

@@ -21,20 +21,17 @@ returns-3 c = let n = c .before .before .before .args .n in simp (lt-ltb 0 n (om
 
 returns-4 : tie.Need-returns-4
 unfolding sizesVerdict sizeVerdict checks
-returns-4 c =
-    let n = c .before .before .before .before .args .n in
+returns-4 c = let n = c .before .before .before .before .args .n in
     simp (lt-ltb 0 n (omega arith), le-leb _ _ (c .before .before .if2 .left), eq-eqb _ _ (c .before .if3 .left), ne-eqb _ _ (c .if4 .taken))
 
 returns-5 : tie.Need-returns-5
 unfolding sizesVerdict sizeVerdict checks
-returns-5 c =
-    let n = c .before .before .before .before .before .args .n in
+returns-5 c = let n = c .before .before .before .before .before .args .n in
     simp (lt-ltb 0 n (omega arith), le-leb _ _ (c .before .before .before .if2 .left), eq-eqb _ _ (c .before .before .if3 .left), eq-eqb _ _ (c .before .if4 .left), ne-eqb _ _ (c .if5 .taken))
 
 returns-6 : tie.Need-returns-6
 unfolding sizesVerdict sizeVerdict checks
-returns-6 c =
-    let n = c .before .before .before .before .before .args .n in
+returns-6 c = let n = c .before .before .before .before .before .args .n in
     simp (lt-ltb 0 n (omega arith), le-leb _ _ (c .before .before .before .if2 .left), eq-eqb _ _ (c .before .before .if3 .left), eq-eqb _ _ (c .before .if4 .left), eq-eqb _ _ (c .if5 .left))
 
 pub sizes-spec : {M : Type 1} → statement M

@@ -1,42 +1,30 @@
 -- `site::checks::tables` meets its contract: the tree check refuses, or it leaves to the rules what they ask.
-use native.Mathlib.Omega.{arith}
 use lib.Seq.{length-take-le}
-use mathlib.Core.Path.{sym}
 use borrow.Author.Needs.{needs}
 use Rattle.site.proofs.Answers.{tables-refused, tables-sized, tables-checked}
 use Rattle.site.proofs.checks.tables.Statement.{statement}
 use Rattle.site.proofs.checks.tables.Tie as tie
 
-array-borrow-prefix-known : tie.Need-array-borrow-prefix-known
-array-borrow-prefix-known c = c .before .before .before .before .pre .few
-
 slice-aggregate-check : tie.Need-slice-aggregate-check
-slice-aggregate-check c = sym (length-take-le _ _ (c .before .before .before .before .before .pre .few))
+slice-aggregate-check c = search length-take-le
 
 check-requires : tie.Need-check-requires
-check-requires c κs =
-    let few = c .before .before .before .before .before .pre .few in
-    record { few = few; size = length-take-le _ _ few }
+check-requires c κs = search length-take-le
 
 returns : tie.Need-returns
-returns c = tables-refused _ (c .before .before .before .check .ensures .verdict) _ (c .enum-told2 .given .1)
+returns c = search tables-refused
 
 check-requires-2 : tie.Need-check-requires-2
-check-requires-2 c κs =
-    tables-sized _
-    (c .before .before .before .before .check .ensures .verdict)
-    (c .before .enum-told .given .1)
-    (c .before .before .before .before .before .before .before .before .before .before .pre)
-    (c .hub .ensures)
+check-requires-2 c κs = search tables-sized
 
 returns-2 : tie.Need-returns-2
-returns-2 c = tables-checked _ (c .before .before .before .before .before .check .ensures .verdict) _ (c .before .before .enum-told .given .1) (c .check2 .ensures)
+returns-2 c = search tables-checked
 
 pub tables-spec : {M : Type 1} → statement M
 tables-spec =
     tie.close
     (tie.spec
-    array-borrow-prefix-known
+    (λ c. search needs)
     slice-aggregate-check
     check-requires
     (λ c. search needs)

@@ -1,5 +1,5 @@
 -- `site::fill::copy` meets its contract. The loop's invariant: the entries below `v` are those of `from`.
-use mathlib.Core.Path.{refl, ap, _∙_}
+use mathlib.Core.Path.{ap, _∙_}
 use Prim.Native.Nat.{_-_}
 use native.Mathlib.Omega.{arith}
 use lib.ListN.{length}
@@ -19,7 +19,7 @@ loop-holds : tie.Need-loop-holds Inv-loop μ-loop
 loop-holds c = fill-start _ _
 
 loop-again : tie.Need-loop-again Inv-loop μ-loop
-loop-again c = fill-next _ (omega arith) refl (c .before .before .loop .inv)
+loop-again c = search (fill-next, needs)
 
 returns : tie.Need-returns Inv-loop μ-loop
 returns c = fill-end (omega arith) (c .before .loop .inv) ∙ ap (λ n. tabulate n (at (c .before .before .args .from .now))) (c .before .before .pre) ∙ by-entries _

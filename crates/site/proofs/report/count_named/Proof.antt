@@ -25,11 +25,11 @@ add-n : tie.Need-add-n Inv-loop μ-loop
 add-n c = let q = counted-more (c .before .before .before .loop .inv) (c .before .before .loop-test .taken) refl (c .one .ensures) in omega arith
 
 loop-again : tie.Need-loop-again Inv-loop μ-loop
-loop-again c = counted-more (c .before .before .before .loop .inv) (c .before .before .loop-test .taken) refl (c .one .ensures)
+loop-again c = search counted-more
 
 returns : tie.Need-returns Inv-loop μ-loop
 unfolding named
-returns c = counted-all (c .before .loop .inv) (c .loop-test .left)
+returns c = search counted-all
 
 pub count-named-spec : {M : Type 1} → statement M
 count-named-spec =

@@ -19,9 +19,6 @@ Inv-loop mark top links₀ v₀ links v = (v ≤ length mark) × (length links �
 abbrev μ-loop : tie.MeasureT-loop
 μ-loop mark top links₀ v₀ links v = length mark - v
 
-loop-holds : tie.Need-loop-holds Inv-loop μ-loop
-loop-holds c = (omega arith, c .before .before .pre, λ up d g e k h. absurd (omega arith))
-
 loop-again : tie.Need-loop-again Inv-loop μ-loop
 loop-again c = let l = c .before .before .loop in (
   omega arith,
@@ -39,7 +36,7 @@ fill-links-spec =
     (tie.spec
     Inv-loop
     μ-loop
-    loop-holds
+    (λ c. search needs)
     (λ c κs. search needs)
     (λ c. search needs)
     (λ c. search needs)

@@ -18,9 +18,6 @@ Inv-loop up group mark top machines₀ w₀ machines w = (w ≤ length up) × (l
 abbrev μ-loop : tie.MeasureT-loop
 μ-loop up group mark top machines₀ w₀ machines w = length up - w
 
-loop-holds : tie.Need-loop-holds Inv-loop μ-loop
-loop-holds c = (omega arith, c .before .before .before .before .pre .1, λ d k h. absurd (omega arith))
-
 loop-again : tie.Need-loop-again Inv-loop μ-loop
 loop-again c = let l = c .before .before .loop in (
   omega arith,
@@ -38,7 +35,7 @@ fill-machines-spec =
     (tie.spec
     Inv-loop
     μ-loop
-    loop-holds
+    (λ c. search needs)
     (λ c κs. search needs)
     (λ c. search needs)
     (λ c. search needs)

@@ -18,13 +18,13 @@ loop-holds : tie.Need-loop-holds Inv-loop μ-loop
 loop-holds c = (omega arith, λ k h. absurd (omega arith))
 
 returns : tie.Need-returns Inv-loop μ-loop
-returns c = found _ _ _ (c .before .before .loop-test .taken) (c .before .carried-member .ensures) (c .if1 .taken)
+returns c = search found
 
 loop-again : tie.Need-loop-again Inv-loop μ-loop
-loop-again c = (omega arith, missed _ _ (c .before .before .before .loop .inv .1) (c .before .carried-member .ensures) (c .if1 .left))
+loop-again c = search (missed, needs)
 
 returns-2 : tie.Need-returns-2 Inv-loop μ-loop
-returns-2 c = unfound _ _ _ (c .before .loop .inv .1) (c .loop-test .left)
+returns-2 c = search unfound
 
 pub group-carried-spec : {M : Type 1} → statement M
 group-carried-spec =

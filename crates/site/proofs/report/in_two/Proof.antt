@@ -5,10 +5,10 @@ use Rattle.site.proofs.report.in_two.Statement.{statement}
 use Rattle.site.proofs.report.in_two.Tie as tie
 
 returns : tie.Need-returns
-returns c = stop _ (c .before .child .ensures) (c .if1 .taken)
+returns c = search stop
 
 returns-2 : tie.Need-returns-2
-returns-2 c = on (c .before .before .before .child .ensures) (c .before .before .if1 .left) (stop _ (c .before .child2 .ensures) (c .if2 .taken))
+returns-2 c = search (on, stop)
 
 returns-3 : tie.Need-returns-3
 returns-3 c = on (c .before .before .before .before .before .child .ensures) (c .before .before .before .before .if1 .left)

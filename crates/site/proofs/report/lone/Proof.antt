@@ -9,7 +9,7 @@ use Rattle.site.proofs.report.lone.Tie as tie
 
 returns : tie.Need-returns
 unfolding lone
-returns c = λ d g. stop _ (c .before .ends-lone .ensures) (c .if1 .taken)
+returns c = λ d g. search stop
 
 returns-2 : tie.Need-returns-2
 unfolding lone

@@ -21,14 +21,14 @@ loop-holds c = (omega arith, λ k h. absurd (omega arith))
 
 returns : tie.Need-returns Inv-loop μ-loop
 unfolding split
-returns c = λ d m. found _ _ _ (c .before .before .loop-test .taken) (c .before .other-group .ensures) (c .if1 .taken)
+returns c = λ d m. search found
 
 loop-again : tie.Need-loop-again Inv-loop μ-loop
-loop-again c = (omega arith, missed _ _ (c .before .before .before .loop .inv .1) (c .before .other-group .ensures) (c .if1 .left))
+loop-again c = search (missed, needs)
 
 returns-2 : tie.Need-returns-2 Inv-loop μ-loop
 unfolding split
-returns-2 c = λ d m. unfound _ _ _ (c .before .loop .inv .1) (c .loop-test .left)
+returns-2 c = λ d m. search unfound
 
 pub split-spec : {M : Type 1} → statement M
 split-spec =

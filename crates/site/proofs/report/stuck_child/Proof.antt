@@ -7,7 +7,7 @@ use Rattle.site.proofs.report.stuck_child.Tie as tie
 
 returns : tie.Need-returns
 unfolding groupCarried
-returns c = λ d. stop _ (c .before .child .ensures) (c .if1 .taken)
+returns c = λ d. search stop
 
 returns-2 : tie.Need-returns-2
 unfolding groupCarried

@@ -1,4 +1,5 @@
 -- `ring::apply` meets its contract: after `i` links the tables are those after the batch's first `i` links.
+use borrow.Author.Needs.{needs}
 use Prim.Native.Nat.{_*_, _-_}
 use lib.ListN.{length}
 use Rattle.site.proofs.Applying.{Applying, start, few-links, bound, second, link-ready, next, end}
@@ -13,29 +14,25 @@ abbrev μ-loop : tie.MeasureT-loop
 μ-loop up depth group₀ mark₀ batch rise₀ i₀ group mark rise i = length batch - 2 * i
 
 loop-holds : tie.Need-loop-holds Inv-loop μ-loop
-loop-holds c = start (c .before .before .before .before .before .pre)
+loop-holds c = search start
 
 mul-loop : tie.Need-mul-loop Inv-loop μ-loop
-mul-loop c = omega (arith, few-links (c .before .before .before .before .before .before .pre) (c .loop .inv))
+mul-loop c = search (few-links, needs)
 
 mul-at : tie.Need-mul-at Inv-loop μ-loop
-mul-at c = let l = c .before in omega (arith, few-links (l .before .before .before .before .before .before .pre) (l .loop .inv))
-
-at-requires : tie.Need-at-requires Inv-loop μ-loop
-at-requires c κs = c .loop-test .taken
+mul-at c = search (few-links, needs)
 
 mul-at-2 : tie.Need-mul-at-2 Inv-loop μ-loop
-mul-at-2 c = let l = c .before .before in omega (arith, few-links (l .before .before .before .before .before .before .pre) (l .loop .inv))
+mul-at-2 c = search (few-links, needs)
 
 add-at : tie.Need-add-at Inv-loop μ-loop
-add-at c = let l = c .before .before in omega (arith, few-links (l .before .before .before .before .before .before .pre) (l .loop .inv))
+add-at c = search (few-links, needs)
 
 at-requires-2 : tie.Need-at-requires-2 Inv-loop μ-loop
-at-requires-2 c κs = let l = c .before .before in second (l .before .before .before .before .before .before .pre) (l .loop .inv) (c .before .loop-test .taken)
+at-requires-2 c κs = search second
 
 link-requires : tie.Need-link-requires Inv-loop μ-loop
-link-requires c κs = let l = c .before .before .before .before .before in
-    link-ready (l .before .before .before .before .before .before .pre) (l .loop .inv) (c .before .before .before .before .loop-test .taken) (c .before .before .before .at .ensures) (c .before .before .at2 .ensures)
+link-requires c κs = search link-ready
 
 add-rise : tie.Need-add-rise Inv-loop μ-loop
 add-rise c = let k = c .before .before .before .before in
@@ -43,24 +40,15 @@ add-rise c = let k = c .before .before .before .before in
     omega (arith, bound (l .before .before .before .before .before .before .pre) (l .loop .inv), k .link .ensures .small, l .before .before .before .before .before .before .pre .few)
 
 add-i : tie.Need-add-i Inv-loop μ-loop
-add-i c = let l = c .before .before .before .before .before .before .before .before .before .before in omega (arith, few-links (l .before .before .before .before .before .before .pre) (l .loop .inv))
-
-loop-less : tie.Need-loop-less Inv-loop μ-loop
-loop-less c = omega (arith, c .before .before .before .before .before .before .before .before .before .loop-test .taken)
+add-i c = search (few-links, needs)
 
 loop-again : tie.Need-loop-again Inv-loop μ-loop
 loop-again c = let k = c .before .before .before .before in
     let l = k .before .before .before .before .before .before in
     next (l .before .before .before .before .before .before .pre) (l .loop .inv) (k .before .before .before .before .before .loop-test .taken) (k .before .before .before .before .at .ensures) (k .before .before .before .at2 .ensures) (k .link .kept .1 .1 .0) (k .link .kept .1 .1 .1 .0) (k .link .ensures)
 
-same-length : tie.Need-same-length Inv-loop μ-loop
-same-length c = let l = c .before in omega (arith, l .loop .inv .group-size, l .before .before .before .before .before .before .pre .group-size)
-
-same-length-2 : tie.Need-same-length-2 Inv-loop μ-loop
-same-length-2 c = let l = c .before in omega (arith, l .loop .inv .mark-size, l .before .before .before .before .before .before .pre .mark-size)
-
 returns : tie.Need-returns Inv-loop μ-loop
-returns c = let l = c .before in end (l .before .before .before .before .before .before .pre) (l .loop .inv) (c .loop-test .left)
+returns c = search end
 
 pub apply-spec : {M : Type 1} → statement M
 apply-spec =
@@ -71,15 +59,15 @@ apply-spec =
     loop-holds
     mul-loop
     mul-at
-    at-requires
+    (λ c κs. search needs)
     mul-at-2
     add-at
     at-requires-2
     link-requires
     add-rise
     add-i
-    loop-less
+    (λ c. search needs)
     loop-again
-    same-length
-    same-length-2
+    (λ c. search needs)
+    (λ c. search needs)
     returns)

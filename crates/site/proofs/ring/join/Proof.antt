@@ -5,7 +5,7 @@ use Rattle.site.proofs.ring.join.Statement.{statement}
 use Rattle.site.proofs.ring.join.Tie as tie
 
 returns : tie.Need-returns
-returns c = joined-by _ _ _ (c .before .before .before .before .greater .ensures) (c .before .before .before .lesser .ensures) (c .before .before .relabel .ensures)
+returns c = search joined-by
 
 pub join-spec : {M : Type 1} → statement M
 join-spec =

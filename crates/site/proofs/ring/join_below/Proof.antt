@@ -5,13 +5,13 @@ use Rattle.site.proofs.ring.join_below.Statement.{statement}
 use Rattle.site.proofs.ring.join_below.Tie as tie
 
 returns : tie.Need-returns
-returns c = simp (eq-eqb _ _ (c .if1 .taken))
+returns c = search eq-eqb
 
 returns-2 : tie.Need-returns-2
-returns-2 c = simp (ne-eqb _ _ (c .before .if1 .left), eq-eqb _ _ (c .if2 .taken))
+returns-2 c = search (ne-eqb, eq-eqb)
 
 returns-3 : tie.Need-returns-3
-returns-3 c = simp (ne-eqb _ _ (c .before .before .before .before .before .if1 .left), ne-eqb _ _ (c .before .before .before .before .if2 .left)) (c .before .before .join .ensures)
+returns-3 c = search ne-eqb
 
 pub join-below-spec : {M : Type 1} → statement M
 join-below-spec = tie.close (tie.spec returns returns-2 (λ c κs. search needs) (λ c. search needs) returns-3)

@@ -1,32 +1,21 @@
 -- `ring::link` meets its contract: what two climbs to the machine at which the lines meet, and the join below it, do is what the link does.
 use mathlib.Core.Path.{_∙_}
 use Rattle.site.proofs.Linking.{climb-left, climb-right, tops-in, linked-by}
-use native.Mathlib.Omega.{arith}
 use borrow.Author.Needs.{needs}
 use Rattle.site.proofs.ring.link.Statement.{statement}
 use Rattle.site.proofs.ring.link.Tie as tie
 
-meet-requires : tie.Need-meet-requires
-meet-requires c κs = c .before .before .before .before .pre .ends
-
 raise-requires : tie.Need-raise-requires
-raise-requires c κs = let m = c .before in climb-left (m .before .before .before .before .before .pre) (m .meet .ensures)
+raise-requires c κs = search climb-left
 
 raise-requires-2 : tie.Need-raise-requires-2
-raise-requires-2 c κs = let r = c .before .before .before in
-    let m = r .before .before in
-    climb-right (m .before .before .before .before .before .pre) (m .meet .ensures) (r .raise .kept .1 .0)
+raise-requires-2 c κs = search climb-right
 
 join-below-requires : tie.Need-join-below-requires
 join-below-requires c κs = let r2 = c .before .before .before in
     let r = r2 .before .before .before .before in
     let m = r .before .before in
     tops-in (m .before .before .before .before .before .pre) (m .meet .ensures) (r .raise .ensures) (r2 .raise2 .ensures)
-
-add-result : tie.Need-add-result
-add-result c = let r2 = c .before .before .before .before .before .before .before .before in
-    let r = r2 .before .before .before .before in
-    omega (arith, r .raise .ensures .small, r2 .raise2 .ensures .small, r .before .before .before .before .before .before .before .pre .few)
 
 returns : tie.Need-returns
 returns c = let j = c .before .before .before .before in
@@ -39,11 +28,11 @@ pub link-spec : {M : Type 1} → statement M
 link-spec =
     tie.close
     (tie.spec
-    meet-requires
+    (λ c κs. search needs)
     raise-requires
     raise-requires-2
     join-below-requires
-    add-result
+    (λ c. search needs)
     (λ c. search needs)
     (λ c. search needs)
     returns)

@@ -4,10 +4,10 @@ use Rattle.site.proofs.ring.mark_for.Statement.{statement}
 use Rattle.site.proofs.ring.mark_for.Tie as tie
 
 returns : tie.Need-returns
-returns c = simp (eq-eqb _ _ (c .if1 .taken))
+returns c = search eq-eqb
 
 returns-2 : tie.Need-returns-2
-returns-2 c = simp (ne-eqb _ _ (c .if1 .left))
+returns-2 c = search ne-eqb
 
 pub mark-for-spec : {M : Type 1} → statement M
 mark-for-spec = tie.close (tie.spec returns returns-2)

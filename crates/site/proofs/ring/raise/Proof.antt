@@ -13,13 +13,13 @@ abbrev μ-loop : tie.MeasureT-loop
 μ-loop up mark₀ a w v₀ top₀ rise₀ mark v top rise = depthOf up v
 
 loop-holds : tie.Need-loop-holds Inv-loop μ-loop
-loop-holds c = start (c .before .before .pre)
+loop-holds c = search start
 
 at-requires : tie.Need-at-requires Inv-loop μ-loop
-at-requires c κs = let l = c .before in here (l .before .before .before .pre) (l .loop .inv)
+at-requires c κs = search here
 
 slice-read-m : tie.Need-slice-read-m Inv-loop μ-loop
-slice-read-m c = let l = c .before .before .before in omega (arith, here (l .before .before .before .pre) (l .loop .inv), l .loop .inv .size)
+slice-read-m c = search (here, needs)
 
 sub-rise : tie.Need-sub-rise Inv-loop μ-loop
 sub-rise c = omega arith
@@ -31,20 +31,16 @@ add-rise : tie.Need-add-rise Inv-loop μ-loop
 add-rise c = let l = c .before .before .before .before .before in omega (arith, bound (l .before .before .before .pre) (l .loop .inv), l .before .before .before .pre .few)
 
 slice-write-mark : tie.Need-slice-write-mark Inv-loop μ-loop
-slice-write-mark c = let l = c .before .before .before .before .before in omega (arith, here (l .before .before .before .pre) (l .loop .inv), l .loop .inv .size)
+slice-write-mark c = search (here, needs)
 
 loop-less : tie.Need-loop-less Inv-loop μ-loop
-loop-less c = let l = c .before .before .before .before .before in falls (l .before .before .before .pre) (l .loop .inv) (c .before .before .before .before .loop-test .taken) (c .before .before .before .at .ensures)
+loop-less c = search falls
 
 loop-again : tie.Need-loop-again Inv-loop μ-loop
-loop-again c = let l = c .before .before .before .before .before in
-    next (l .before .before .before .pre) (l .loop .inv) (c .before .before .before .before .loop-test .taken) _ _ _ (c .before .before .before .at .ensures) (c .before .mark-for .ensures) (c .most .ensures)
-
-same-length : tie.Need-same-length Inv-loop μ-loop
-same-length c = let l = c .before in omega (arith, l .loop .inv .size, l .before .before .before .pre .size)
+loop-again c = search next
 
 returns : tie.Need-returns Inv-loop μ-loop
-returns c = let l = c .before in end (l .before .before .before .pre) (l .loop .inv) (c .loop-test .left)
+returns c = search end
 
 pub raise-spec : {M : Type 1} → statement M
 raise-spec =
@@ -63,5 +59,5 @@ raise-spec =
     slice-write-mark
     loop-less
     loop-again
-    same-length
+    (λ c. search needs)
     returns)

@@ -4,7 +4,6 @@ use lib.ListN.{length}
 use Rattle.tables.specs.Link.{renamed}
 use Rattle.plain.proofs.Mapping.{Mapping, map-start, map-next, map-end}
 use borrow.Author.Needs.{needs}
-use native.Mathlib.Omega.{arith}
 use Rattle.site.proofs.ring.relabel.Statement.{statement}
 use Rattle.site.proofs.ring.relabel.Tie as tie
 
@@ -17,17 +16,11 @@ abbrev μ-loop : tie.MeasureT-loop
 loop-holds : tie.Need-loop-holds Inv-loop μ-loop
 loop-holds c = map-start _ _
 
-loop-less : tie.Need-loop-less Inv-loop μ-loop
-loop-less c = omega (arith, c .before .before .before .loop .inv .size)
-
 loop-again : tie.Need-loop-again Inv-loop μ-loop
-loop-again c = map-next _ _ (c .before .before .before .loop .inv) _ (c .before .before .loop-test .taken) (c .rename .ensures)
-
-same-length : tie.Need-same-length Inv-loop μ-loop
-same-length c = c .before .loop .inv .size
+loop-again c = search map-next
 
 returns : tie.Need-returns Inv-loop μ-loop
-returns c = map-end _ _ (c .before .loop .inv) (c .loop-test .left)
+returns c = search map-end
 
 pub relabel-spec : {M : Type 1} → statement M
 relabel-spec =
@@ -42,7 +35,7 @@ relabel-spec =
     (λ c. search needs)
     (λ c. search needs)
     (λ c. search needs)
-    loop-less
+    (λ c. search needs)
     loop-again
-    same-length
+    (λ c. search needs)
     returns)

@@ -20,7 +20,7 @@ returns-2 c = λ d g. let t = c .before .before .before .before .before .before 
 
 returns-3 : tie.Need-returns-3
 unfolding carriedRule
-returns-3 c = λ d g. rw (ne-eqb _ 2 (c .match .rest .1))
+returns-3 c = λ d g. search ne-eqb
 
 pub carried-rule-spec : {M : Type 1} → statement M
 carried-rule-spec =

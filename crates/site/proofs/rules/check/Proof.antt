@@ -21,15 +21,12 @@ abbrev μ-loop : tie.MeasureT-loop
 loop-holds : tie.Need-loop-holds Inv-loop μ-loop
 loop-holds c = (omega arith, λ k h. absurd (omega arith))
 
-keeps-requires : tie.Need-keeps-requires Inv-loop μ-loop
-keeps-requires c κs = (c .before .before .before .before .before .before .pre, c .loop-test .taken)
-
 returns : tie.Need-returns Inv-loop μ-loop
 unfolding rulesVerdict
-returns c = sym (refuse-at 6 _ _ _ (c .before .before .loop-test .taken) (c .before .before .before .loop .inv .1) (broken _ _ _ (c .before .keeps .ensures) (c .if1 .taken)))
+returns c = search (sym, refuse-at, broken)
 
 loop-again : tie.Need-loop-again Inv-loop μ-loop
-loop-again c = (omega arith, none-more _ _ (c .before .before .before .loop .inv .1) (broken _ _ _ (c .before .keeps .ensures) (c .if1 .left)))
+loop-again c = search (none-more, broken, needs)
 
 returns-2 : tie.Need-returns-2 Inv-loop μ-loop
 unfolding rulesVerdict
@@ -42,7 +39,7 @@ check-spec =
     Inv-loop
     μ-loop
     loop-holds
-    keeps-requires
+    (λ c κs. search needs)
     returns
     (λ c. search needs)
     (λ c. search needs)

@@ -11,7 +11,7 @@ unfolding groupRule
 returns c = λ d m. rw (at-hub _ (c .before .before .before .pre .top) (c .if1 .taken))
 
 returns-2 : tie.Need-returns-2
-returns-2 c = λ d m. name-over (c .before .before .before .before .before .pre) (c .before .before .if1 .left) (c .before .at .ensures) d m (c .if2 .taken)
+returns-2 c = λ d m. search name-over
 
 returns-3 : tie.Need-returns-3
 returns-3 c = let b = c .before .before .before .before .before .before .pre in λ d m. name-within b (c .before .before .before .if1 .left) (c .before .before .at .ensures) d m (c .before .if2 .left) (rw (at-hub _ (b .top) (c .if3 .taken)))

@@ -6,7 +6,7 @@ use Rattle.site.proofs.rules.keeps.Statement.{statement}
 use Rattle.site.proofs.rules.keeps.Tie as tie
 
 depth-rule-requires : tie.Need-depth-rule-requires
-depth-rule-requires c κs = let p = c .before .before .before .before .pre in beside (p .0) (p .1) (p .0 .depth-size)
+depth-rule-requires c κs = search beside
 
 returns : tie.Need-returns
 unfolding keeps
@@ -26,7 +26,7 @@ returns-3 c = let t = c .before .before .before .before .before .before .before 
     (stop _ (c .before .mark-rule .ensures _ _) (c .if3 .taken)))
 
 group-rule-requires : tie.Need-group-rule-requires
-group-rule-requires c κs = let p = c .before .before .before .before .before .before .before .before .before .before .pre in beside (p .0) (p .1) (p .0 .group-size)
+group-rule-requires c κs = search beside
 
 returns-4 : tie.Need-returns-4
 unfolding keeps
@@ -46,7 +46,7 @@ returns-5 c = let t = c .before .before .before .before .before .before .before 
     (stop _ (c .before .partner-rule .ensures _ _ t) (c .if5 .taken)))))
 
 carried-rule-requires : tie.Need-carried-rule-requires
-carried-rule-requires c κs = let p = c .before .before .before .before .before .before .before .before .before .before .before .before .before .before .pre in beside (p .0) (p .1) (p .0 .mark-size)
+carried-rule-requires c κs = search beside
 
 returns-6 : tie.Need-returns-6
 unfolding keeps

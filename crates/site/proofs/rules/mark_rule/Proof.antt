@@ -13,7 +13,7 @@ returns c = λ d g. let a = c .before .before .args in rw (le-leb (at (a .mark .
 
 returns-2 : tie.Need-returns-2
 unfolding markRule
-returns-2 c = λ d g. rw (lt-leb _ 2 (c .if1 .left))
+returns-2 c = λ d g. search lt-leb
 
 pub mark-rule-spec : {M : Type 1} → statement M
 mark-rule-spec = tie.close (tie.spec (λ c. search needs) returns returns-2)

@@ -16,9 +16,7 @@ unfolding partnerRule
 returns-2 c = λ up d e. rw (off-hub up e (c .before .before .if1 .left), ← c .before .at .ensures, eq-eqb _ _ (c .if2 .taken))
 
 returns-3 : tie.Need-returns-3
-returns-3 c = λ up d e.
-    partner up d _ _ e (c .before .before .before .if1 .left) (c .before .before .at .ensures) (c .before .if2 .left)
-    (rw (List·getD-eq-default (c .before .before .before .before .before .before .args .mark .now) 0 (c .if3 .taken)))
+returns-3 c = search (partner, List·getD-eq-default)
 
 returns-4 : tie.Need-returns-4
 returns-4 c = λ up d e.

@@ -5,34 +5,16 @@ use Rattle.site.proofs.tree.check.Statement.{statement}
 use Rattle.site.proofs.tree.check.Tie as tie
 
 returns : tie.Need-returns
-returns c = stop-entries (c .enum-told2 .given .1) (c .before .before .entries .ensures) (c .before .before .before .before .before .pre .size)
+returns c = search stop-entries
 
 returns-2 : tie.Need-returns-2
-returns-2 c =
-    stop-hubs
-    (c .before .before .before .enum-told .given .1)
-    (c .before .before .before .before .before .entries .ensures)
-    (c .enum-told4 .given .1)
-    (c .before .before .hubs .ensures)
-    (c .before .before .before .before .before .before .before .before .pre .size)
+returns-2 c = search stop-hubs
 
 reach-requires : tie.Need-reach-requires
-reach-requires c κs =
-    ready
-    (c .before .before .before .before .enum-told .given .1)
-    (c .before .before .before .before .before .before .entries .ensures)
-    (c .before .enum-told3 .given .1)
-    (c .before .before .before .hubs .ensures)
-    (c .before .before .before .before .before .before .before .before .before .pre)
+reach-requires c κs = search ready
 
 returns-3 : tie.Need-returns-3
-returns-3 c =
-    all-checked
-    (c .before .before .before .before .before .before .before .enum-told .given .1)
-    (c .before .before .before .before .before .before .before .before .before .entries .ensures)
-    (c .before .before .before .before .enum-told3 .given .1)
-    (c .before .before .before .before .before .before .hubs .ensures)
-    (c .before .before .reach .ensures)
+returns-3 c = search all-checked
 
 pub check-spec : {M : Type 1} → statement M
 check-spec =

@@ -20,13 +20,13 @@ cast-if1 : tie.Need-cast-if1 Inv-loop μ-loop
 cast-if1 c = omega (arith, c .shared-slice-known .given (c .before .before .loop .v))
 
 returns : tie.Need-returns Inv-loop μ-loop
-returns c = enter-found (omega arith) (c .if1 .taken) (c .before .before .before .loop .inv)
+returns c = search enter-found
 
 loop-again : tie.Need-loop-again Inv-loop μ-loop
-loop-again c = enter-next (omega arith) (c .if1 .left) (c .before .before .before .loop .inv)
+loop-again c = search enter-next
 
 returns-2 : tie.Need-returns-2 Inv-loop μ-loop
-returns-2 c = enter-end (omega arith) (c .before .loop .inv)
+returns-2 c = search enter-end
 
 pub entries-spec : {M : Type 1} → statement M
 entries-spec =

@@ -5,7 +5,7 @@ use Rattle.site.proofs.tree.hub.Statement.{statement}
 use Rattle.site.proofs.tree.hub.Tie as tie
 
 returns : tie.Need-returns
-returns c = first-hub (c .hub-from .ensures)
+returns c = search first-hub
 
 pub hub-spec : {M : Type 1} → statement M
 hub-spec = tie.close (tie.spec (λ c κs. search needs) returns)

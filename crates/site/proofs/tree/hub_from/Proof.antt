@@ -14,19 +14,19 @@ abbrev μ-loop : tie.MeasureT-loop
 μ-loop up from v₀ v = length up - v
 
 loop-holds : tie.Need-loop-holds Inv-loop μ-loop
-loop-holds c = seek-start _ _ (c .pre)
+loop-holds c = search seek-start
 
 cast-if1 : tie.Need-cast-if1 Inv-loop μ-loop
 cast-if1 c = omega (arith, c .shared-slice-known .given (c .before .before .loop .v))
 
 returns : tie.Need-returns Inv-loop μ-loop
-returns c = seek-found (omega arith) (c .if1 .taken) (c .before .before .before .loop .inv)
+returns c = search seek-found
 
 loop-again : tie.Need-loop-again Inv-loop μ-loop
-loop-again c = seek-next (omega arith) (c .if1 .left) (c .before .before .before .loop .inv)
+loop-again c = search seek-next
 
 returns-2 : tie.Need-returns-2 Inv-loop μ-loop
-returns-2 c = seek-end (omega arith) (c .before .loop .inv)
+returns-2 c = search seek-end
 
 pub hub-from-spec : {M : Type 1} → statement M
 hub-from-spec =

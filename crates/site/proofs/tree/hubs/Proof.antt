@@ -5,13 +5,13 @@ use Rattle.site.proofs.tree.hubs.Statement.{statement}
 use Rattle.site.proofs.tree.hubs.Tie as tie
 
 returns : tie.Need-returns
-returns c = no-hub _ _ (c .before .hub .ensures) (c .if1 .taken)
+returns c = search no-hub
 
 returns-2 : tie.Need-returns-2
-returns-2 c = two-hubs _ _ (c .before .before .before .hub .ensures) _ (c .before .before .if1 .left) (c .before .hub-from .ensures) (c .if2 .taken)
+returns-2 c = search two-hubs
 
 returns-3 : tie.Need-returns-3
-returns-3 c = one-hub _ _ (c .before .before .before .hub .ensures) _ (c .before .before .if1 .left) (c .before .hub-from .ensures) (c .if2 .left)
+returns-3 c = search one-hub
 
 pub hubs-spec : {M : Type 1} → statement M
 hubs-spec =

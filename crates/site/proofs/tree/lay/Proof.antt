@@ -12,22 +12,22 @@ abbrev μ-loop : tie.MeasureT-loop
 μ-loop up known₀ v depth x₀ d₀ known x d = d
 
 loop-holds : tie.Need-loop-holds Inv-loop μ-loop
-loop-holds c = lay-start (c .pre)
+loop-holds c = search lay-start
 
 cast-x : tie.Need-cast-x Inv-loop μ-loop
 cast-x c = omega (arith, c .shared-slice-known .given (c .before .before .before .loop .x))
 
 sub-d : tie.Need-sub-d Inv-loop μ-loop
-sub-d c = omega (arith, lay-deep (c .before .if1 .taken) (c .before .before .before .loop .inv))
+sub-d c = search lay-deep
 
 loop-less : tie.Need-loop-less Inv-loop μ-loop
 loop-less c = omega (arith, lay-deep (c .before .if1 .taken) (c .before .before .before .loop .inv))
 
 loop-again : tie.Need-loop-again Inv-loop μ-loop
-loop-again c = lay-next (c .before .before .before .before .pre) (c .before .if1 .taken) (c .before .before .before .loop .inv)
+loop-again c = search lay-next
 
 returns : tie.Need-returns Inv-loop μ-loop
-returns c = lay-end (c .if1 .left) (c .before .before .loop .inv)
+returns c = search lay-end
 
 pub lay-spec : {M : Type 1} → statement M
 lay-spec =

@@ -20,22 +20,13 @@ slice-write-known : tie.Need-slice-write-known Inv-loop μ-loop
 slice-write-known c = omega arith
 
 loop-holds : tie.Need-loop-holds Inv-loop μ-loop
-loop-holds c =
-    reach-start
-    (c .before .before .before .before .before .before .before .pre)
-    (c .before .before .before .blank .ensures)
-    (c .hub .ensures)
+loop-holds c = search reach-start
 
 until-requires : tie.Need-until-requires Inv-loop μ-loop
-until-requires c κs =
-    reach-climb
-    (c .before .before .before .before .before .before .before .before .before .before .pre)
-    (c .before .before .loop .inv)
-    (omega arith)
+until-requires c κs = search reach-climb
 
 returns : tie.Need-returns Inv-loop μ-loop
-returns c =
-    reach-stray
+returns c = reach-stray
     (c .before .before .before .before .before .before .before .before .before .before .before .before .pre)
     (c .before .before .before .before .loop .inv)
     (omega arith)
@@ -49,23 +40,16 @@ add-depth : tie.Need-add-depth Inv-loop μ-loop
 add-depth c = omega (arith, c .slice-known3 .given (c .before .before .until .result .at))
 
 lay-requires : tie.Need-lay-requires Inv-loop μ-loop
-lay-requires c κs =
-    reach-lay
-    (c .before .before .before .before .before .before .before .before .before .before .before .before .before .before .pre)
-    (c .before .before .before .before .before .before .loop .inv)
-    (omega arith)
-    (c .before .before .if1 .left)
-    (c .before .before .before .until .ensures)
+lay-requires c κs = search reach-lay
 
 loop-again : tie.Need-loop-again Inv-loop μ-loop
-loop-again c =
-    reach-next
+loop-again c = reach-next
     (omega arith)
     (c .before .before .lay .ensures)
     (c .before .before .before .before .before .before .before .before .before .loop .inv)
 
 returns-2 : tie.Need-returns-2 Inv-loop μ-loop
-returns-2 c = reach-end (c .before .before .before .before .before .before .before .before .before .pre) (c .before .loop .inv) (omega arith)
+returns-2 c = search reach-end
 
 pub reach-spec : {M : Type 1} → statement M
 reach-spec =

@@ -15,19 +15,19 @@ abbrev μ-loop : tie.MeasureT-loop
 μ-loop up known v k₀ x₀ k x = length up - k
 
 loop-holds : tie.Need-loop-holds Inv-loop μ-loop
-loop-holds c = climb-start (c .pre)
+loop-holds c = search climb-start
 
 returns : tie.Need-returns Inv-loop μ-loop
-returns c = climb-here (c .if1 .taken) (c .before .before .before .loop .inv)
+returns c = search climb-here
 
 cast-x : tie.Need-cast-x Inv-loop μ-loop
 cast-x c = omega (arith, c .shared-slice-known2 .given (c .before .before .before .before .loop .x))
 
 loop-again : tie.Need-loop-again Inv-loop μ-loop
-loop-again c = climb-next (c .before .before .before .before .before .pre) (omega arith) (c .before .if1 .left) (c .before .before .before .before .loop .inv)
+loop-again c = search climb-next
 
 returns-2 : tie.Need-returns-2 Inv-loop μ-loop
-returns-2 c = climb-end (omega arith) (c .before .loop .inv)
+returns-2 c = search climb-end
 
 pub until-spec : {M : Type 1} → statement M
 until-spec =

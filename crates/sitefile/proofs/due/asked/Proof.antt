@@ -26,7 +26,7 @@ returns-5 c = rw (c .match .keys5)
 
 returns-6 : tie.Need-returns-6
 unfolding asked
-returns-6 c = let n = c .match .rest .0 in rw (ne-eqb _ 1 (n .0 .0 .0 .1), ne-eqb _ 2 (n .0 .0 .1), ne-eqb _ 3 (n .0 .1), ne-eqb _ 4 (n .1))
+returns-6 c = search ne-eqb
 
 pub asked-spec : {M : Type 1} → statement M
 asked-spec = tie.close (tie.spec returns returns-2 returns-3 returns-4 returns-5 returns-6)

@@ -1,5 +1,5 @@
 -- `kinds::close`: Add over the front parts of the tables is what `close` of a file says, and the parts are laid back over their slices.
-use mathlib.Core.Path.{sym, _∙_}
+use mathlib.Core.Path.{_∙_}
 use lib.Seq.{length-take-le}
 use Rattle.sitefile.proofs.ReadCalls.{close-done}
 use borrow.Author.Needs.{needs}
@@ -7,19 +7,19 @@ use Rattle.sitefile.proofs.kinds.close.Statement.{statement}
 use Rattle.sitefile.proofs.kinds.close.Tie as tie
 
 slice-aggregate-add : tie.Need-slice-aggregate-add
-slice-aggregate-add c = sym (length-take-le _ _ (c .before .before .before .before .before .before .before .pre .fronts .in-up))
+slice-aggregate-add c = search length-take-le
 
 slice-aggregate-add-2 : tie.Need-slice-aggregate-add-2
-slice-aggregate-add-2 c = sym (length-take-le _ _ (c .before .before .before .before .before .before .before .before .pre .fronts .in-depth))
+slice-aggregate-add-2 c = search length-take-le
 
 slice-aggregate-add-3 : tie.Need-slice-aggregate-add-3
-slice-aggregate-add-3 c = sym (length-take-le _ _ (c .before .before .before .before .before .before .before .before .before .pre .fronts .in-group))
+slice-aggregate-add-3 c = search length-take-le
 
 slice-aggregate-add-4 : tie.Need-slice-aggregate-add-4
-slice-aggregate-add-4 c = sym (length-take-le _ _ (c .before .before .before .before .before .before .before .before .before .before .pre .fronts .in-mark))
+slice-aggregate-add-4 c = search length-take-le
 
 slice-aggregate-add-5 : tie.Need-slice-aggregate-add-5
-slice-aggregate-add-5 c = sym (length-take-le _ _ (c .before .before .before .before .before .before .before .before .before .before .before .pre .inside))
+slice-aggregate-add-5 c = search length-take-le
 
 returns : tie.Need-returns
 returns c = λ machines links. let p = c .before .before .before .before .before .before .before .before .before .before .before .before .before .before .before .before .before .before .before .pre in

@@ -7,7 +7,7 @@ use Rattle.sitefile.proofs.kinds.link.Statement.{statement}
 use Rattle.sitefile.proofs.kinds.link.Tie as tie
 
 returns : tie.Need-returns
-returns c = λ up depth group mark machines links h. link-full _ _ up depth group mark _ machines links (c .if1 .taken) (c .before .before .before .pre .inside)
+returns c = λ up depth group mark machines links h. search link-full
 
 slice-write-batch : tie.Need-slice-write-batch
 slice-write-batch c = let h = c .before .before .before .before .before .pre .room (c .before .before .if1 .left) in omega (arith, h)

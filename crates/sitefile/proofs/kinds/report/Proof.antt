@@ -1,5 +1,5 @@
 -- `kinds::report`: Report into the front parts of the outputs, laid back over them.
-use mathlib.Core.Path.{sym, _∙_}
+use mathlib.Core.Path.{_∙_}
 use lib.Seq.{length-take-le}
 use Rattle.sitefile.proofs.ReadCalls.{report-done}
 use borrow.Author.Needs.{needs}
@@ -7,22 +7,22 @@ use Rattle.sitefile.proofs.kinds.report.Statement.{statement}
 use Rattle.sitefile.proofs.kinds.report.Tie as tie
 
 slice-aggregate-report : tie.Need-slice-aggregate-report
-slice-aggregate-report c = sym (length-take-le _ _ (c .before .before .before .before .before .before .before .before .pre .fronts .in-up))
+slice-aggregate-report c = search length-take-le
 
 slice-aggregate-report-2 : tie.Need-slice-aggregate-report-2
-slice-aggregate-report-2 c = sym (length-take-le _ _ (c .before .before .before .before .before .before .before .before .before .pre .fronts .in-depth))
+slice-aggregate-report-2 c = search length-take-le
 
 slice-aggregate-report-3 : tie.Need-slice-aggregate-report-3
-slice-aggregate-report-3 c = sym (length-take-le _ _ (c .before .before .before .before .before .before .before .before .before .before .pre .fronts .in-group))
+slice-aggregate-report-3 c = search length-take-le
 
 slice-aggregate-report-4 : tie.Need-slice-aggregate-report-4
-slice-aggregate-report-4 c = sym (length-take-le _ _ (c .before .before .before .before .before .before .before .before .before .before .before .pre .fronts .in-mark))
+slice-aggregate-report-4 c = search length-take-le
 
 slice-aggregate-report-5 : tie.Need-slice-aggregate-report-5
-slice-aggregate-report-5 c = sym (length-take-le _ _ (c .before .before .before .before .before .before .before .before .before .before .before .before .pre .in-machines))
+slice-aggregate-report-5 c = search length-take-le
 
 slice-aggregate-report-6 : tie.Need-slice-aggregate-report-6
-slice-aggregate-report-6 c = sym (length-take-le _ _ (c .before .before .before .before .before .before .before .before .before .before .before .before .before .pre .in-links))
+slice-aggregate-report-6 c = search length-take-le
 
 returns : tie.Need-returns
 returns c = λ batch. let p = c .before .before .before .before .before .before .before .before .before .before .before .before .before .before .before .before .before .before .before .pre in

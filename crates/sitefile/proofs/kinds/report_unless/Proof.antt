@@ -4,10 +4,10 @@ use Rattle.sitefile.proofs.kinds.report_unless.Statement.{statement}
 use Rattle.sitefile.proofs.kinds.report_unless.Tie as tie
 
 returns : tie.Need-returns
-returns c = rw (eq-eqb _ _ (c .if1 .taken))
+returns c = search eq-eqb
 
 returns-2 : tie.Need-returns-2
-returns-2 c = rw (ne-eqb _ _ (c .if1 .left))
+returns-2 c = search ne-eqb
 
 pub report-unless-spec : {M : Type 1} → statement M
 report-unless-spec = tie.close (tie.spec returns returns-2)

@@ -5,13 +5,13 @@ use Rattle.sitefile.proofs.kinds.size.Statement.{statement}
 use Rattle.sitefile.proofs.kinds.size.Tie as tie
 
 returns : tie.Need-returns
-returns c = size-none _ _ _ (number-in 0 (c .before .before .body .ensures) (c .before .word .ensures)) (c .if1 .taken)
+returns c = search (size-none, number-in)
 
 returns-2 : tie.Need-returns-2
-returns-2 c = size-many _ _ _ (number-in 0 (c .before .before .before .body .ensures) (c .before .before .word .ensures)) (c .if2 .taken)
+returns-2 c = search (size-many, number-in)
 
 returns-3 : tie.Need-returns-3
-returns-3 c = size-read _ _ _ (number-in 0 (c .before .before .before .body .ensures) (c .before .before .word .ensures)) (c .before .if1 .left) (c .if2 .left)
+returns-3 c = search (size-read, number-in)
 
 pub size-spec : {M : Type 1} → statement M
 size-spec =

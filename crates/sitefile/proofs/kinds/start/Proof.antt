@@ -1,5 +1,5 @@
 -- `kinds::start`: Start over front parts; what lies behind them stays.
-use mathlib.Core.Path.{sym, _∙_}
+use mathlib.Core.Path.{_∙_}
 use lib.Seq.{length-take-le}
 use Rattle.sitefile.proofs.ReadCalls.{start-front}
 use borrow.Author.Needs.{needs}
@@ -7,16 +7,16 @@ use Rattle.sitefile.proofs.kinds.start.Statement.{statement}
 use Rattle.sitefile.proofs.kinds.start.Tie as tie
 
 slice-aggregate-start : tie.Need-slice-aggregate-start
-slice-aggregate-start c = sym (length-take-le _ _ (c .before .before .before .before .before .pre .fronts .in-up))
+slice-aggregate-start c = search length-take-le
 
 slice-aggregate-start-2 : tie.Need-slice-aggregate-start-2
-slice-aggregate-start-2 c = sym (length-take-le _ _ (c .before .before .before .before .before .before .pre .fronts .in-depth))
+slice-aggregate-start-2 c = search length-take-le
 
 slice-aggregate-start-3 : tie.Need-slice-aggregate-start-3
-slice-aggregate-start-3 c = sym (length-take-le _ _ (c .before .before .before .before .before .before .before .pre .fronts .in-group))
+slice-aggregate-start-3 c = search length-take-le
 
 slice-aggregate-start-4 : tie.Need-slice-aggregate-start-4
-slice-aggregate-start-4 c = sym (length-take-le _ _ (c .before .before .before .before .before .before .before .before .pre .fronts .in-mark))
+slice-aggregate-start-4 c = search length-take-le
 
 returns : tie.Need-returns
 returns c = let p = c .before .before .before .before .before .before .before .before .before .before .before .before .before .before .before .pre in

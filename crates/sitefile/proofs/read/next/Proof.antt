@@ -6,10 +6,10 @@ use Rattle.sitefile.proofs.read.next.Statement.{statement}
 use Rattle.sitefile.proofs.read.next.Tie as tie
 
 returns : tie.Need-returns
-returns c = next-unfit _ _ _ _ _ _ _ _ _ (c .before .fits2 .ensures) (c .if1 .taken)
+returns c = search next-unfit
 
 size-requires : tie.Need-size-requires
-size-requires c κs = let a = c .before .before .before .before .before .before .before .before .before .before .before .before .before .args in size-due _ _ (a .up .now) (a .depth .now) (a .group .now) (a .mark .now) (a .batch .now) (a .machines .now) (a .links .now) (c .before .before .before .before .fits2 .ensures) (c .before .before .before .if1 .left) (c .before .before .look .ensures) (c .enum-told2 .given .1)
+size-requires c κs = search size-due
 
 uplink-requires : tie.Need-uplink-requires
 uplink-requires c κs = let a = c .before .before .before .before .before .before .before .before .before .before .before .before .before .before .before .before .before .args in uplink-due _ _ (a .up .now) (a .depth .now) (a .group .now) (a .mark .now) (a .batch .now) (a .machines .now) (a .links .now) (c .before .before .before .before .before .before .before .before .fits2 .ensures) (c .before .before .before .before .before .before .before .if1 .left) (c .before .before .before .before .before .before .look .ensures) (c .before .before .before .before .enum-told3 .given .1)
@@ -24,10 +24,10 @@ report-requires : tie.Need-report-requires
 report-requires c κs = let a = c .before .before .before .before .before .before .before .before .before .before .before .before .before .before .before .before .before .before .before .args in report-due _ _ (a .up .now) (a .depth .now) (a .group .now) (a .mark .now) (a .batch .now) (a .machines .now) (a .links .now) (c .before .before .before .before .before .before .before .before .before .before .fits2 .ensures) (c .before .before .before .before .before .before .before .before .before .if1 .left) (c .before .before .before .before .before .before .before .before .look .ensures) (c .before .before .before .before .before .before .enum-told6 .given .1) (omega arith)
 
 returns-2 : tie.Need-returns-2
-returns-2 c = next-end _ _ _ _ _ _ _ _ _ (c .before .before .before .before .fits2 .ensures) (c .before .before .before .if1 .left) (c .before .before .look .ensures) (c .enum-told .given .1)
+returns-2 c = search next-end
 
 returns-3 : tie.Need-returns-3
-returns-3 c = next-stop _ _ _ _ _ _ _ _ _ (c .before .before .before .before .before .fits2 .ensures) (c .before .before .before .before .if1 .left) (c .before .before .before .look .ensures) (c .before .d .given .1)
+returns-3 c = search next-stop
 
 returns-4 : tie.Need-returns-4
 returns-4 c = next-size _ _ _ _ _ _ _ _ _ (c .before .before .before .before .before .fits2 .ensures) (c .before .before .before .before .if1 .left) (c .before .before .before .look .ensures) (c .before .enum-told2 .given .1) (c .size .ensures _)

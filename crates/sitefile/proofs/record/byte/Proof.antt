@@ -1,12 +1,11 @@
 -- `record::byte` meets its contract: past the end an entry counts as 0.
-use mathlib.Core.Path.{sym}
 use lib.ListN.{List·getD-eq-default}
 use borrow.Author.Needs.{needs}
 use Rattle.sitefile.proofs.record.byte.Statement.{statement}
 use Rattle.sitefile.proofs.record.byte.Tie as tie
 
 returns-2 : tie.Need-returns-2
-returns-2 c = sym (List·getD-eq-default (c .before .args .body .now) 0 (c .if1 .left))
+returns-2 c = search List·getD-eq-default
 
 pub byte-spec : {M : Type 1} → statement M
 byte-spec = tie.close (tie.spec (λ c. search needs) (λ c. search needs) returns-2)

@@ -5,7 +5,7 @@ use Rattle.sitefile.proofs.record.word.Statement.{statement}
 use Rattle.sitefile.proofs.record.word.Tie as tie
 
 returns : tie.Need-returns
-returns c = word-past (c .before .before .args .body .now) (c .before .before .args .i) (c .if1 .taken)
+returns c = search word-past
 
 pub word-spec : {M : Type 1} → statement M
 word-spec =

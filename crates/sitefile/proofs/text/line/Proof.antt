@@ -7,16 +7,16 @@ use Rattle.sitefile.proofs.text.line.Statement.{statement}
 use Rattle.sitefile.proofs.text.line.Tie as tie
 
 put-requires : tie.Need-put-requires
-put-requires c κs = let a = c .before .before .args in room-letter (a .out .now) (a .at) (a .letter) (a .a) (a .b) (c .before .before .pre)
+put-requires c κs = search room-letter
 
 field-requires : tie.Need-field-requires
-field-requires c κs = let a = c .before .before .before .before .before .before .args in room-a (a .out .now) (a .at) (a .letter) (a .a) (a .b) (c .before .before .before .before .before .before .pre) (c .before .before .before .put .ensures)
+field-requires c κs = search room-a
 
 field-requires-2 : tie.Need-field-requires-2
-field-requires-2 c κs = let a = c .before .before .before .before .before .before .before .before .before .before .args in room-b (a .out .now) (a .at) (a .letter) (a .a) (a .b) (c .before .before .before .before .before .before .before .before .before .before .pre) (c .before .before .before .before .before .before .before .put .ensures) (c .before .before .before .field .ensures)
+field-requires-2 c κs = search room-b
 
 put-requires-2 : tie.Need-put-requires-2
-put-requires-2 c κs = let a = c .before .before .before .before .before .before .before .before .before .before .before .before .before .before .args in room-end (a .out .now) (a .at) (a .letter) (a .a) (a .b) (c .before .before .before .before .before .before .before .before .before .before .before .before .before .before .pre) (c .before .before .before .before .before .before .before .before .before .before .before .put .ensures) (c .before .before .before .before .before .before .before .field .ensures) (c .before .before .before .field2 .ensures)
+put-requires-2 c κs = search room-end
 
 returns : tie.Need-returns
 unfolding line

@@ -1,5 +1,4 @@
 -- `text::machine_lines` meets its contract. The loop's invariant: the lines of the machines below `k` are written.
-use mathlib.Core.Path.{sym}
 use Prim.Native.Nat.{_-_}
 use native.Mathlib.Omega.{arith}
 use lib.ListN.{length}
@@ -25,13 +24,13 @@ line-for-requires : tie.Need-line-for-requires Inv-loop μ-loop
 line-for-requires c κs = let a = c .before .before .before .before .before .before .args in room (room-reworded (a .at) (length (a .out .now)) (machine-pieces (a .machines .now) 0 (length (a .machines .now))) (c .before .before .before .before .before .before .pre)) (c .before .before .loop-test .taken) (c .before .before .before .loop .inv)
 
 loop-again : tie.Need-loop-again Inv-loop μ-loop
-loop-again c = next (c .before .before .before .before .before .loop-test .taken) (c .before .before .line-for .ensures) (c .before .before .before .before .before .before .loop .inv)
+loop-again c = search next
 
 same-length : tie.Need-same-length Inv-loop μ-loop
-same-length c = size (c .before .loop .inv .done)
+same-length c = search size
 
 returns : tie.Need-returns Inv-loop μ-loop
-returns c = let a = c .before .before .before .before .args in reworded (sym (machine-pieces (a .machines .now) 0 (length (a .machines .now)))) (end (c .loop-test .left) (c .before .loop .inv))
+returns c = search (reworded, machine-pieces, length, end)
 
 pub machine-lines-spec : {M : Type 1} → statement M
 machine-lines-spec =

@@ -1,14 +1,13 @@
 -- `text::one_for` meets its contract, by the byte.
-use native.Mathlib.Omega.{arith}
 use borrow.Author.Tests.{eq-eqb, ne-eqb}
 use Rattle.sitefile.proofs.text.one_for.Statement.{statement}
 use Rattle.sitefile.proofs.text.one_for.Tie as tie
 
 returns : tie.Need-returns
-returns c = rw (eq-eqb _ 0 (c .match .keys1))
+returns c = search eq-eqb
 
 returns-2 : tie.Need-returns-2
-returns-2 c = rw (ne-eqb (c .before .args .byte) 0 (omega arith))
+returns-2 c = search ne-eqb
 
 pub one-for-spec : {M : Type 1} → statement M
 one-for-spec = tie.close (tie.spec returns returns-2)

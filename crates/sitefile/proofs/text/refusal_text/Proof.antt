@@ -11,7 +11,7 @@ use Rattle.sitefile.proofs.text.refusal_text.Tie as tie
 
 returns : tie.Need-returns
 unfolding refusalWritten
-returns c = rw (lt-leb 64 (length (c .before .before .args .out .now)) (c .if1 .taken))
+returns c = search (lt-leb, length)
 
 line-requires : tie.Need-line-requires
 line-requires c κs = omega (arith, any-line 82 (c .before .before .before .args .code) (c .before .before .before .args .value), c .before .if1 .left)

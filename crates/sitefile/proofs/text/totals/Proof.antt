@@ -7,10 +7,10 @@ use Rattle.sitefile.proofs.text.totals.Statement.{statement}
 use Rattle.sitefile.proofs.text.totals.Tie as tie
 
 line-requires : tie.Need-line-requires
-line-requires c κs = room-reworded (c .before .before .before .before .before .before .args .at) _ (sym (same-line 84 (c .before .before .named .ensures) (c .before .named2 .ensures))) (c .before .before .before .before .before .before .pre)
+line-requires c κs = search (room-reworded, sym, same-line)
 
 returns : tie.Need-returns
-returns c = reworded (same-line 84 (c .before .before .before .before .before .named .ensures) (c .before .before .before .before .named2 .ensures)) (c .before .before .line .ensures)
+returns c = search (reworded, same-line)
 
 pub totals-spec : {M : Type 1} → statement M
 totals-spec =

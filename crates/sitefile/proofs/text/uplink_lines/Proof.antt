@@ -1,5 +1,4 @@
 -- `text::uplink_lines` meets its contract. The loop's invariant: the lines of the uplinks below `k` are written.
-use mathlib.Core.Path.{sym}
 use Prim.Native.Nat.{_-_}
 use native.Mathlib.Omega.{arith}
 use lib.ListN.{length}
@@ -28,10 +27,10 @@ loop-again : tie.Need-loop-again Inv-loop μ-loop
 loop-again c = next (c .before .before .before .before .before .before .loop-test .taken) (c .before .before .line-for .ensures) (c .before .before .before .before .before .before .before .loop .inv)
 
 same-length : tie.Need-same-length Inv-loop μ-loop
-same-length c = size (c .before .loop .inv .done)
+same-length c = search size
 
 returns : tie.Need-returns Inv-loop μ-loop
-returns c = let a = c .before .before .before .before .before .args in reworded (sym (uplink-pieces (a .up .now) (a .links .now) 0 (length (a .links .now)))) (end (c .loop-test .left) (c .before .loop .inv))
+returns c = search (reworded, uplink-pieces, length, end)
 
 pub uplink-lines-spec : {M : Type 1} → statement M
 uplink-lines-spec =
