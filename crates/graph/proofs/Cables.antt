@@ -1,23 +1,25 @@
 -- Cables counted and taken out. Counting and taking out both go along the list, so each law is an induction over it with a case on each cable.
-use mathlib.Core.Path.{_≡_, refl, sym, ap, _∙_}
+use mathlib.Core.Path.{_≡_, refl, ap, _∙_}
 use mathlib.Core.Bool.{true, false, _&&_, or-comm}
 use mathlib.Core.List.{[], _∷_, _++_}
+use mathlib.Core.HLevel.{×-discrete}
 use mathlib.Core.Logic.{_⊎_, inl, inr, ⊎-elim, ⊎-map, _↔_}
 use Prim.Native.Nat.{ℕ, suc, _+_, _≤_, _<_}
+use native.Mathlib.Decide.{ℕ-discrete}
 use native.Mathlib.Omega.{arith}
 use lib.Dec.{eqb}
 use Rattle.plain.specs.Member.{_∈_}
 use Rattle.plain.proofs.Says.{Says, says-eq, says-and, says-or, by-cases, refutes}
-use Rattle.plain.proofs.Decide.{or?, member?, pair?}
+use Rattle.plain.proofs.Decide.{or?, member?}
 use Rattle.graph.specs.Cable.{Cables, Within, Linked, joins, between, less, ChokePair}
 use Rattle.graph.proofs.Walks.{back}
-use Rattle.graph.proofs.Members.{here, there, parts, on-left, on-right}
+use Rattle.graph.proofs.Members.{here, there, cases, parts, on-left, on-right}
 
 pub flip : (E : Cables) (a b : ℕ) → Linked E a b → Linked E b a
 flip E a b = ⊎-elim inr inl
 
 pub linked? : (E : Cables) (a b : ℕ) → Dec (Linked E a b)
-linked? E a b = or? (member? pair? (a, b) E) (member? pair? (b, a) E)
+linked? E a b = let d = ×-discrete ℕ-discrete ℕ-discrete in or? (member? d (a, b) E) (member? d (b, a) E)
 
 pub linked-near : {n : ℕ} (E : Cables) → Within n E → (a b : ℕ) → Linked E a b → (a < n) × (b < n)
 linked-near E near a b = ⊎-elim (near a b) (λ h. (near b a h .1, near b a h .0))
@@ -31,6 +33,17 @@ linked-append E F a b = (
 -- x and y are a and b, either way round
 abbrev pub Same : ℕ → ℕ → ℕ → ℕ → Type 0
 Same a b x y = ((x ≡ a) × (y ≡ b)) ⊎ ((x ≡ b) × (y ≡ a))
+
+pub same-linked : {a b x y : ℕ} (E : Cables) → Same a b x y → Linked E x y → Linked E a b
+same-linked E (inl k) l = rw (k .0, k .1) at l
+same-linked {a} {b} E (inr k) l = flip E b a (rw (k .0, k .1) at l)
+
+pub linked-cons : {a b x y : ℕ} {E : Cables} → Linked ((a, b) ∷ E) x y → Same a b x y ⊎ Linked E x y
+linked-cons (inl m) = ⊎-map (λ e. inl (ap (λ p. p .0) e, ap (λ p. p .1) e)) inl (cases m)
+linked-cons (inr m) = ⊎-map (λ e. inr (ap (λ p. p .1) e, ap (λ p. p .0) e)) inr (cases m)
+
+pub linked-more : {p : ℕ × ℕ} {E : Cables} (x y : ℕ) → Linked E x y → Linked (p ∷ E) x y
+linked-more x y = ⊎-map there there
 
 pub says-joins : (a b x y : ℕ) → Says (joins a b (x, y)) (Same a b x y)
 unfolding joins
@@ -47,8 +60,8 @@ found : (E : Cables) (a b : ℕ) → 1 ≤ between E a b → Linked E a b
 unfolding between
 found [] a b h = absurd (omega arith)
 found (p ∷ E) a b h = by-cases (joins a b p)
-    (λ e. ⊎-map (λ k. here (λ i. (sym (k .0) i, sym (k .1) i))) (λ k. here (λ i. (sym (k .0) i, sym (k .1) i))) (says-joins a b (p .0) (p .1) .gives e))
-    (λ e. let h′ : 1 ≤ 0 + between E a b = rw e at h in ⊎-map there there (found E a b (omega arith)))
+    (λ e. same-linked (p ∷ E) (says-joins a b (p .0) (p .1) .gives e) (inl (here refl)))
+    (λ e. linked-more a b (found E a b (omega (arith, rw e at h))))
 
 pub linked-between : (E : Cables) (a b : ℕ) → Linked E a b ↔ (1 ≤ between E a b)
 linked-between E a b = (⊎-elim (counted E a b (says-joins a b a b .takes (inl (refl, refl)))) (counted E a b (says-joins a b b a .takes (inr (refl, refl)))), found E a b)
@@ -84,19 +97,18 @@ pub less-append : (E F : Cables) (a b : ℕ) → 1 ≤ between E a b → less (E
 unfolding between less
 less-append [] F a b h = absurd (omega arith)
 less-append (p ∷ E) F a b h = by-cases (joins a b p) (λ e. rw e refl)
-    (λ e. let h′ : 1 ≤ 0 + between E a b = rw e at h in rw e (ap (λ l. p ∷ l) (less-append E F a b (omega arith))))
+    (λ e. rw e (ap (λ l. p ∷ l) (less-append E F a b (omega (arith, rw e at h)))))
 
 -- one is taken out, where there is one
-pub less-between : {k : ℕ} (E : Cables) (a b : ℕ) → between E a b ≡ suc k → between (less E a b) a b ≡ k
+pub less-between : (E : Cables) (a b : ℕ) → 1 ≤ between E a b → suc (between (less E a b) a b) ≡ between E a b
 unfolding between less
 less-between [] a b h = absurd (omega arith)
-less-between {k} (p ∷ E) a b h = by-cases (joins a b p)
-    (λ e. let h′ : 1 + between E a b ≡ suc k = rw e at h in rw e (omega arith))
-    (λ e. let h′ : 0 + between E a b ≡ suc k = rw e at h in rw (e, e) (omega (arith, less-between {k = k} E a b (omega arith))))
+less-between (p ∷ E) a b h = by-cases (joins a b p) (λ e. rw e (omega arith))
+    (λ e. rw (e, e) (omega (arith, less-between E a b (omega (arith, rw e at h)))))
 
 -- the last one leaves none
 pub less-lone : (E : Cables) (a b : ℕ) → between E a b ≡ 1 → ¬ Linked (less E a b) a b
-less-lone E a b e l = omega (arith, linked-between (less E a b) a b .0 l, less-between E a b e)
+less-lone E a b e l = omega (arith, linked-between (less E a b) a b .0 l, less-between E a b (omega arith))
 
 pub less-in : {p : ℕ × ℕ} (E : Cables) (a b : ℕ) → p ∈ less E a b → p ∈ E
 unfolding less

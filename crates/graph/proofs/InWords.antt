@@ -1,7 +1,6 @@
 -- A path says of its list what the plain words say, and the other way round: by going along the list.
-use mathlib.Core.Path.{_≡_, refl}
+use mathlib.Core.Path.{refl}
 use mathlib.Core.List.{List, [], _∷_}
-use mathlib.Core.Logic.{_⊎_, inl, inr, ⊎-elim}
 use Prim.Native.Nat.{ℕ}
 use Rattle.graph.specs.Walk.{Relation}
 use Rattle.graph.specs.Path.{Path, done, hop, Starts, Ends, Next, now, further, Once, InWords}
@@ -25,16 +24,11 @@ module _ {R : Relation} where
   once done = (empty, tt)
   once (hop r f p) = (f, once p)
 
-  -- two next to each other on w and a path are w and the path's first, or stand on the path
-  head-or : {a c w x y : ℕ} {l : List ℕ} → Path R a c l → Next x y (w ∷ l) → ((x ≡ w) × (y ≡ a)) ⊎ Next x y l
-  head-or done (now e g) = inl (e, g)
-  head-or done (further n) = inr n
-  head-or (hop r f p) (now e g) = inl (e, g)
-  head-or (hop r f p) (further n) = inr n
-
   linked : {a c x y : ℕ} {l : List ℕ} → Path R a c l → Next x y l → R x y
   linked done (further n) = absurd (nowhere n)
-  linked (hop r f p) n = ⊎-elim (λ e. rw (e .0, e .1) r) (linked p) (head-or p n)
+  linked (hop r f done) (now e g) = rw (e, g) r
+  linked (hop r f (hop s h p)) (now e g) = rw (e, g) r
+  linked (hop r f p) (further n) = linked p n
 
   path : {a c : ℕ} (l : List ℕ) → InWords R a c l → Path R a c l
   path [] p = absurd p.starts

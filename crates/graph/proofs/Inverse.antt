@@ -1,11 +1,12 @@
 -- A renumbering undone by search: y came from the least x with f x ≡ y. There is one by the pigeonhole: else y would be an image more than there are numbers.
 use mathlib.Core.Path.{_≡_, sym, ap, _∙_}
 use mathlib.Core.Bool.{cond}
-use mathlib.Core.Logic.{_≢_}
+use mathlib.Core.Logic.{_≢_, dite}
 use Prim.Native.Nat.{ℕ, _<_}
+use native.Mathlib.Decide.{decLt}
 use native.Mathlib.Omega.{arith}
 use lib.Dec.{eqb, ltb}
-use borrow.Author.Tests.{eqb-true, eqb-false, ltb-true, ltb-false, lt-ltb}
+use borrow.Author.Tests.{eqb-true, eqb-false, ltb-true, lt-ltb}
 use Rattle.plain.specs.Search.{least}
 use Rattle.plain.proofs.Says.{by-cases}
 use Rattle.plain.proofs.Least.{least-has}
@@ -31,9 +32,8 @@ module _ (n : ℕ) (f : ℕ → ℕ) (one : OneToOne n f) where
 
   found : (y : ℕ) → y < n → inverse y < n
   unfolding inverse
-  found y h = let r = least-has n (λ x. eqb (f x) y) in
-      by-cases (ltb (inverse y) n) (ltb-true _ _)
-      (λ e. absurd (hit y h (λ x l. eqb-false (f x) y (r .before x (omega (arith, ltb-false (inverse y) n e))))))
+  found y h = dite (decLt (inverse y) n) (λ l. l)
+      (λ o. absurd (hit y h (λ x l. eqb-false (f x) y (least-has n (λ x. eqb (f x) y) .before x (omega arith)))))
 
   redo : (y : ℕ) → y < n → f (inverse y) ≡ y
   unfolding inverse

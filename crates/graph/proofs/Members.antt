@@ -9,8 +9,8 @@ use Rattle.plain.specs.Member.{_∈_}
 use Rattle.plain.proofs.Decide.{member?}
 
 infix 4 _⊆_
-abbrev pub _⊆_ : List ℕ → List ℕ → Type 0
-l ⊆ s = (m : ℕ) → m ∈ l → m ∈ s
+abbrev pub _⊆_ : {A : Type 0} → List A → List A → Type 0
+_⊆_ {A} l s = (m : A) → m ∈ l → m ∈ s
 
 abbrev pub Disjoint : List ℕ → List ℕ → Type 0
 Disjoint l s = (m : ℕ) → m ∈ l → ¬ (m ∈ s)
@@ -26,6 +26,6 @@ find = member? ℕ-discrete
 pub apart : {m x : ℕ} {l : List ℕ} → ¬ (x ∈ l) → m ∈ l → m ≢ x
 apart f h e = f (cast (sym e) h)
 
-pub keep : {x : ℕ} {l s : List ℕ} → l ⊆ s → x ∷ l ⊆ x ∷ s
+pub keep : {A : Type 0} {x : A} {l s : List A} → l ⊆ s → x ∷ l ⊆ x ∷ s
 keep g m (here e) = here e
 keep g m (there h) = there (g m h)

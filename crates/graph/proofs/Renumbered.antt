@@ -1,7 +1,7 @@
 -- A walk is carried step by step along a renumbering; a step from a machine to itself is no step. So a choke among the images is one before:
 -- a walk there would be carried here. The other direction is the same law for the renumbering that undoes it.
 use mathlib.Core.Path.{_≡_, sym, ap, _∙_}
-use mathlib.Core.Logic.{_≢_, _↔_, ⊎-map, ⊎-elim, dite}
+use mathlib.Core.Logic.{_≢_, _↔_, Iff·symm, ⊎-map, dite}
 use Prim.Native.Nat.{ℕ, _<_}
 use native.Mathlib.Decide.{ℕ-discrete}
 use native.Mathlib.Omega.{arith}
@@ -10,7 +10,7 @@ use Rattle.graph.specs.Choke.{Without, Choke}
 use Rattle.graph.specs.Cable.{Cables, Within, Linked, between, less, ChokePair}
 use Rattle.graph.specs.Renumbering.{OneToOne, KeepsLinks, class, KeepsCables}
 use Rattle.graph.specs.Statements.{MachinesCarried, CablesLinks, PairsCarried}
-use Rattle.graph.proofs.Cables.{flip, linked-near, linked-between, Same, less-lone, less-sub, less-keeps}
+use Rattle.graph.proofs.Cables.{linked-near, linked-between, Same, same-linked, less-lone, less-sub, less-keeps}
 use Rattle.graph.proofs.Inverse.{undone}
 
 pub cables-links : CablesLinks
@@ -65,7 +65,7 @@ pub machines-carried : MachinesCarried
 machines-carried n f E F near near′ one keeps w w< =
     let (g, t) = twins one in
     let ways = turned (λ a b c d. Linked E a b ↔ Linked F c d) t keeps in (
-      λ c. machine-back F E near′ (swap t) (λ a b a< b< ab. (ways a b a< b< ab .1, ways a b a< b< ab .0)) (f w) (one .into w w<) (rw (t.undo w w<) c),
+      λ c. machine-back F E near′ (swap t) (λ a b a< b< ab. Iff·symm (ways a b a< b< ab)) (f w) (one .into w w<) (rw (t.undo w w<) c),
       machine-back E F near t keeps w w<,
     )
 
@@ -78,7 +78,7 @@ pair-back {n} {f} {g} E F near t keeps a b a< b< ab c = record { single = single
 
     -- what is left of E after the one cable is another pair's
     other : (x y : ℕ) → Linked (less E a b) x y → ¬ Same a b x y
-    other x y r s = less-lone E a b single (⊎-elim (λ k. rw (k .0, k .1) at r) (λ k. flip (less E a b) b a (rw (k .0, k .1) at r)) s)
+    other x y r s = less-lone E a b single (same-linked (less E a b) s r)
 
     over : {x y : ℕ} → Walk (Linked (less E a b)) x y → Walk (Linked (less F (f a) (f b))) (f x) (f y)
     over = carried f λ x y r o.

@@ -9,8 +9,8 @@ use native.Mathlib.Omega.{arith}
 use Rattle.plain.specs.Search.{some}
 use Rattle.plain.specs.Member.{_∈_}
 use Rattle.plain.proofs.Says.{says-some, says-and, says-not, says-eq, refuted}
-use Rattle.graph.specs.Walk.{Relation, stay}
-use Rattle.graph.specs.Choke.{Choke}
+use Rattle.graph.specs.Walk.{Relation, Walk, stay}
+use Rattle.graph.specs.Choke.{Without, Choke}
 use Rattle.graph.specs.Cable.{Cables, Linked, joins, between, less, ChokePair}
 use Rattle.graph.specs.Path.{TwoPaths}
 use Rattle.graph.proofs.Walks.{one-step, closed}
@@ -52,18 +52,13 @@ abbrev Home : Relation
 Home a b = (a ≡ 0 → b ≡ 0) × (b ≡ 0 → a ≡ 0)
 
 pub line-machine : Choke 3 (Linked line) 1
-line-machine = record {
-  one = 0;
-  two = 2;
-  one-in = omega arith;
-  two-in = omega arith;
-  one-other = omega arith;
-  two-other = omega arith;
-  parted = λ v. omega (arith, closed (λ x. x ≡ 0) (λ a b r. ⊎-elim (λ h. but a b h (r .0) (r .1) .0) (λ h. but b a h (r .1) (r .0) .1) (r .2)) v refl);
-}
+line-machine = record { one = 0; two = 2; one-in = omega arith; two-in = omega arith; one-other = omega arith; two-other = omega arith; parted = parted }
   where
     but : (a b : ℕ) → (a, b) ∈ line → a ≢ 1 → b ≢ 1 → Home a b
     but = each (λ a b. a ≢ 1 → b ≢ 1 → Home a b) line (omega arith)
+
+    parted : ¬ Walk (Without (Linked line) 1) 0 2
+    parted v = omega (arith, closed (λ x. x ≡ 0) (λ a b r. ⊎-elim (λ h. but a b h (r .0) (r .1) .0) (λ h. but b a h (r .1) (r .0) .1) (r .2)) v refl)
 
 pub line-pair : ChokePair line 0 1
 unfolding joins between less

@@ -127,12 +127,11 @@ module _ {n : ℕ} {R : Relation} (many : 3 ≤ n) (near : (a b : ℕ) → R a b
 
 pub two-paths : TwoPathsExactly
 two-paths n E many near = (
-  (λ none. whitney many (linked-near E near) (λ w x y w< x< y< xw yw. dite (round? w x y) (λ v. v) (λ f. absurd (none w w< (record
-      { one = x; two = y; one-in = x<; two-in = y<; one-other = xw; two-other = yw; parted = f }))))),
+  (λ none. whitney many (linked-near E near) (λ w x y w< x< y< xw yw. dite (round? w x y) (λ v. v) (λ f. absurd (none w w< (search))))),
   none-choke,
 )
   where
     round? : (w x y : ℕ) → Dec (Walk (Without (Linked E) w) x y)
     round? w = walk? (Without (Linked E) w) n (λ a b r. linked-near E near a b (r .2) .1)
-        (λ a b. map-dec (λ k. (k .0 .0, k .0 .1, k .1)) (λ k. ((k .0, k .1), k .2))
+        (λ a b. map-dec (λ k. search) (λ k. search)
         (Dec·and (Dec·and (Dec·not (ℕ-discrete a w)) (Dec·not (ℕ-discrete b w))) (linked? E a b)))

@@ -2,7 +2,7 @@
 use mathlib.Core.Path.{_≡_}
 use mathlib.Core.Bool.{Bool, true}
 use mathlib.Core.Logic.{_≢_}
-use Prim.Native.Nat.{ℕ, zero, suc, _+_, _<_, _≤_}
+use Prim.Native.Nat.{ℕ, zero, suc, _<_, _≤_}
 use native.Mathlib.Omega.{arith}
 use Rattle.plain.specs.Search.{count}
 use Rattle.plain.proofs.Says.{by-cases}
@@ -11,18 +11,14 @@ count-some : (n : ℕ) (p : ℕ → Bool) → 1 ≤ count n p → (d : ℕ) × (
 unfolding count
 count-some zero p h = absurd (omega arith)
 count-some (suc n) p h = by-cases (p zero) (λ e. (zero, omega arith, e)) λ e.
-    let h′ : 1 ≤ 0 + count n (λ k. p (suc k)) = rw e at h in
-    let (d, l, f) = count-some n (λ k. p (suc k)) (omega arith) in (suc d, omega arith, f)
+    let (d, l, f) = count-some n (λ k. p (suc k)) (omega (arith, rw e at h)) in (suc d, omega arith, f)
 
 -- of two or more one is not c
 pub count-other : (n : ℕ) (p : ℕ → Bool) (c : ℕ) → 2 ≤ count n p → (d : ℕ) × (d < n) × (d ≢ c) × (p d ≡ true)
 unfolding count
 count-other zero p c h = absurd (omega arith)
 count-other (suc n) p zero h =
-    let h′ : 1 ≤ count n (λ k. p (suc k)) = by-cases (p zero)
-    (λ e. let i : 2 ≤ 1 + count n (λ k. p (suc k)) = rw e at h in omega arith)
-    (λ e. let i : 2 ≤ 0 + count n (λ k. p (suc k)) = rw e at h in omega arith) in
+    let h′ : 1 ≤ count n (λ k. p (suc k)) = by-cases (p zero) (λ e. omega (arith, rw e at h)) (λ e. omega (arith, rw e at h)) in
     let (d, l, f) = count-some n (λ k. p (suc k)) h′ in (suc d, omega arith, omega arith, f)
-count-other (suc n) p (suc c) h = let ih = count-other n (λ k. p (suc k)) c in by-cases (p zero) (λ e. (zero, omega arith, omega arith, e)) λ e.
-    let i : 2 ≤ 0 + count n (λ k. p (suc k)) = rw e at h in
-    let (d, l, o, f) = ih (omega arith) in (suc d, omega arith, omega arith, f)
+count-other (suc n) p (suc c) h = by-cases (p zero) (λ e. (zero, omega arith, omega arith, e)) λ e.
+    let (d, l, o, f) = count-other n (λ k. p (suc k)) c (omega (arith, rw e at h)) in (suc d, omega arith, omega arith, f)

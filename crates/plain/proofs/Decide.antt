@@ -1,9 +1,9 @@
 -- Decisions: one of two, some number below n, whether something stands on a list.
-use mathlib.Core.Path.{_≡_, ap}
+use mathlib.Core.Path.{_≡_}
 use mathlib.Core.List.{List, [], _∷_, List·Memᴰ·head, List·Memᴰ·tail, List·Memᴰ·not-nil, List·Memᴰ·cases-cons}
-use mathlib.Core.Logic.{_≢_, _⊎_, inl, inr, ⊎-elim, Dec·and, dite}
+use mathlib.Core.Logic.{_≢_, _⊎_, inl, inr, ⊎-elim, dite}
 use Prim.Native.Nat.{ℕ, zero, suc, _<_}
-use native.Mathlib.Decide.{ℕ-discrete, map-dec}
+use native.Mathlib.Decide.{map-dec}
 use native.Mathlib.Omega.{arith}
 use Rattle.plain.specs.Member.{_∈_}
 
@@ -23,6 +23,3 @@ any? {P} (suc n) d = dite (d n (omega arith)) (λ p. yes (n, omega arith, p)) λ
 pub member? : {A : Type 0} → ((x y : A) → Dec (x ≡ y)) → (x : A) (l : List A) → Dec (x ∈ l)
 member? d x [] = no List·Memᴰ·not-nil
 member? d x (y ∷ l) = map-dec (⊎-elim List·Memᴰ·head List·Memᴰ·tail) List·Memᴰ·cases-cons (or? (d x y) (member? d x l))
-
-pub pair? : (p q : ℕ × ℕ) → Dec (p ≡ q)
-pair? p q = map-dec (λ k i. (k .0 i, k .1 i)) (λ e. (ap (λ r. r .0) e, ap (λ r. r .1) e)) (Dec·and (ℕ-discrete (p .0) (q .0)) (ℕ-discrete (p .1) (q .1)))

@@ -1,10 +1,10 @@
 -- A slice filled from its front by a rule: the first i entries go by it, each store makes them one more, and at the end the slice is the list
 -- by that rule.
-use mathlib.Core.Path.{_≡_, refl, sym, ap, _∙_}
-use mathlib.Core.List.{List, _∷_}
-use Prim.Native.Nat.{ℕ, zero, suc, _+_, _<_, _≤_}
+use mathlib.Core.Path.{_≡_, refl, sym, _∙_}
+use mathlib.Core.List.{List}
+use Prim.Native.Nat.{ℕ, _+_, _<_, _≤_}
 use native.Mathlib.Omega.{arith}
-use lib.ListN.{length, set, replicate, length-set}
+use lib.ListN.{length, set, replicate, length-set, length-replicate, getD-replicate}
 use lib.Seq.{getD-set-same, getD-set-other}
 use borrow.Author.Count.{below-more}
 use Rattle.plain.specs.Table.{at, tabulate}
@@ -43,6 +43,4 @@ pub by-entries : (l : List ℕ) → tabulate (length l) (at l) ≡ l
 by-entries l = sym (tabulated l (length l) (at l) refl (λ k h. refl))
 
 pub all-alike : (n a : ℕ) → tabulate n (λ _. a) ≡ replicate n a
-unfolding tabulate
-all-alike zero a = refl
-all-alike (suc n) a = ap (λ l. a ∷ l) (all-alike n a)
+all-alike n a = sym (tabulated (replicate n a) n (λ _. a) (length-replicate n a) (λ k. getD-replicate n k a 0))

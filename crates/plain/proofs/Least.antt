@@ -1,6 +1,6 @@
 -- The least number below n that passes a test: what it is, and how to show that a number is it. By induction, shifting the test.
-use mathlib.Core.Path.{_≡_, refl, ap}
-use mathlib.Core.Bool.{Bool, true, false, cond}
+use mathlib.Core.Path.{_≡_, ap}
+use mathlib.Core.Bool.{Bool, true, false}
 use Prim.Native.Nat.{ℕ, zero, suc, _<_, _≤_, zero-le}
 use native.Mathlib.Omega.{arith}
 use lib.Dec.{leb}
@@ -23,19 +23,16 @@ least-is (suc n) p (suc r) l =
     (ap suc (least-is n (λ k. p (suc k)) r
     (record { le = omega (arith, l .le); before = λ k h. l .before (suc k) (omega arith); here = λ h. l .here (omega arith) })))
 
-least-suc : (n : ℕ) (p : ℕ → Bool) (b : Bool) → p zero ≡ b → Least n (λ k. p (suc k)) (least n (λ k. p (suc k)))
-    → Least (suc n) p (cond b zero (suc (least n (λ k. p (suc k)))))
-least-suc n p true e l = record { le = zero-le; before = λ k h. absurd (omega arith); here = λ h. e }
-least-suc n p false e l = record { le = omega arith; before = go; here = λ h. l .here (omega arith) }
-  where
-    go : (k : ℕ) → k < suc (least n (λ k. p (suc k))) → p k ≡ false
-    go zero h = e
-    go (suc k) h = l .before k (omega arith)
+shifted : (p : ℕ → Bool) (i : ℕ) → p zero ≡ false → ((k : ℕ) → k < i → p (suc k) ≡ false) → (k : ℕ) → k < suc i → p k ≡ false
+shifted p i e f zero h = e
+shifted p i e f (suc k) h = f k (omega arith)
 
 pub least-has : (n : ℕ) (p : ℕ → Bool) → Least n p (least n p)
 unfolding least
 least-has zero p = record { le = zero-le; before = λ k h. absurd (omega arith); here = λ h. absurd (omega arith) }
-least-has (suc n) p = least-suc n p (p zero) refl (least-has n (λ k. p (suc k)))
+least-has (suc n) p = let l = least-has n (λ k. p (suc k)) in by-cases (p zero)
+    (λ e. rw e (record { le = zero-le; before = λ k h. absurd (omega arith); here = λ h. e }))
+    (λ e. rw e (record { le = omega (arith, l .le); before = shifted p _ e (l .before); here = λ h. l .here (omega arith) }))
 
 -- what passes is not before the least
 pub least-le : (n : ℕ) (p : ℕ → Bool) (k : ℕ) → p k ≡ true → least n p ≤ k

@@ -1,11 +1,12 @@
--- For loops that count up: what a search and a count say with one number more at the end, and what such a loop keeps.
+-- For loops that count up: what a search and a count keep, number by number.
 use mathlib.Core.Path.{_≡_, refl, sym, ap, _∙_}
-use mathlib.Core.Bool.{Bool, true, false, cond, _||_, or-assoc, or-true, or-false}
+use mathlib.Core.Bool.{Bool, true, false, cond}
 use Prim.Native.Nat.{ℕ, zero, suc, _+_, _<_, _≤_}
 use native.Mathlib.Numerals.{add-one}
 use native.Mathlib.Omega.{arith}
 use borrow.Author.Count.{below-more}
 use Rattle.plain.specs.Search.{some, count}
+use Rattle.plain.proofs.Says.{Says, says-some, refutes, clash}
 
 -- p fails for every number below i
 abbrev pub NoneBelow : (ℕ → Bool) → ℕ → Type 0
@@ -14,37 +15,24 @@ NoneBelow p i = (k : ℕ) → k < i → p k ≡ false
 pub none-more : (p : ℕ → Bool) (i : ℕ) → NoneBelow p i → p i ≡ false → NoneBelow p (i + 1)
 none-more p i none e = below-more (λ k. p k ≡ false) i none e
 
-pub some-more : (n : ℕ) (p : ℕ → Bool) → some (suc n) p ≡ (some n p || p n)
-unfolding some
-some-more zero p = or-false (p zero)
-some-more (suc n) p = ap (λ b. p zero || b) (some-more n (λ k. p (suc k))) ∙ sym (or-assoc (p zero) (some n (λ k. p (suc k))) (p (suc n)))
+-- a search by its test says that some number passes
+some-is : (n : ℕ) (p : ℕ → Bool) → Says (some n p) ((k : ℕ) × (k < n) × (p k ≡ true))
+some-is n p = says-some n (λ k _. record { gives = λ e. e; takes = λ e. e })
 
--- where p fails everywhere there is none, and where it holds once there is some
-pub some-none : (n : ℕ) (p : ℕ → Bool) → NoneBelow p n → some n p ≡ false
-unfolding some
-some-none zero p none = refl
-some-none (suc n) p none = rw (none zero (omega arith)) (some-none n (λ k. p (suc k)) (λ k h. none (suc k) (omega arith)))
-
-pub some-at : (n : ℕ) (p : ℕ → Bool) (i : ℕ) → i < n → p i ≡ true → some n p ≡ true
-unfolding some
-some-at zero p i h e = absurd (omega arith)
-some-at (suc n) p zero h e = rw e refl
-some-at (suc n) p (suc i) h e = rw (some-at n (λ k. p (suc k)) i (omega arith) e) (or-true (p zero))
-
-pub count-more : (n : ℕ) (p : ℕ → Bool) → count (suc n) p ≡ count n p + cond (p n) 1 0
+count-more : (n : ℕ) (p : ℕ → Bool) → count (suc n) p ≡ count n p + cond (p n) 1 0
 unfolding count
 count-more zero p = omega arith
 count-more (suc n) p = omega (arith, count-more n (λ k. p (suc k)))
 
 -- the test of number i answers r
 pub found : (n : ℕ) (p : ℕ → Bool) (i : ℕ) {r : Bool} → i < n → r ≡ p i → r ≡ true → true ≡ some n p
-found n p i h e f = sym (some-at n p i h (sym e ∙ f))
+found n p i h e f = sym (some-is n p .takes (i, h, sym e ∙ f))
 
 pub missed : (p : ℕ → Bool) (i : ℕ) {r : Bool} → NoneBelow p i → r ≡ p i → r ≡ false → NoneBelow p (i + 1)
 missed p i none e f = none-more p i none (sym e ∙ f)
 
 pub unfound : (n : ℕ) (p : ℕ → Bool) (i : ℕ) → NoneBelow p i → n ≤ i → false ≡ some n p
-unfound n p i none h = sym (some-none n p (λ k l. none k (omega arith)))
+unfound n p i none h = sym (refutes (some-is n p) (λ (k, l, e). clash e (none k (omega arith))))
 
 -- k of the numbers below i pass
 pub record Counted (n : ℕ) (p : ℕ → Bool) (i k : ℕ) : Type 0 where

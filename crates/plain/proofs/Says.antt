@@ -19,7 +19,7 @@ by-cases false f g = g refl
 pub clash : {A : Type 0} {b : Bool} → b ≡ true → b ≡ false → A
 clash e f = absurd (true≢false (sym e ∙ f))
 
-pub decided : {b : Bool} {P : Type 0} → Says b P → Dec P
+decided : {b : Bool} {P : Type 0} → Says b P → Dec P
 decided {b} s = by-cases b (λ e. yes (s .gives e)) (λ e. no (λ p. clash (s .takes p) e))
 
 pub refuted : {b : Bool} {P : Type 0} → Says b P → b ≡ false → ¬ P
@@ -41,25 +41,16 @@ pub says-lt : (a b : ℕ) → Says (ltb a b) (a < b)
 says-lt a b = record { gives = ltb-true a b; takes = lt-ltb a b }
 
 pub says-not : {b : Bool} {P : Type 0} → Says b P → Says (not b) (¬ P)
-says-not {b} {P} s = go b refl
-  where
-    go : (c : Bool) → b ≡ c → Says (not c) (¬ P)
-    go true e = record { gives = λ f. absurd (false≢true f); takes = λ q. absurd (q (s .gives e)) }
-    go false e = record { gives = λ _. refuted s e; takes = λ _. refl }
+says-not {b = true} s = record { gives = λ f. absurd (false≢true f); takes = λ q. absurd (q (s .gives refl)) }
+says-not {b = false} s = record { gives = λ _. refuted s refl; takes = λ _. refl }
 
 pub says-and : {a b : Bool} {P Q : Type 0} → Says a P → Says b Q → Says (a && b) (P × Q)
-says-and {a} {b} {P} {Q} s t = go a refl
-  where
-    go : (c : Bool) → a ≡ c → Says (c && b) (P × Q)
-    go true e = record { gives = λ f. (s .gives e, t .gives f); takes = λ k. t .takes (k .1) }
-    go false e = record { gives = λ f. absurd (false≢true f); takes = λ k. absurd (refuted s e (k .0)) }
+says-and {a = true} s t = record { gives = λ f. (s .gives refl, t .gives f); takes = λ k. t .takes (k .1) }
+says-and {a = false} s t = record { gives = λ f. absurd (false≢true f); takes = λ k. s .takes (k .0) }
 
 pub says-or : {a b : Bool} {P Q : Type 0} → Says a P → Says b Q → Says (a || b) (P ⊎ Q)
-says-or {a} {b} {P} {Q} s t = go a refl
-  where
-    go : (c : Bool) → a ≡ c → Says (c || b) (P ⊎ Q)
-    go true e = record { gives = λ f. inl (s .gives e); takes = λ k. refl }
-    go false e = record { gives = λ f. inr (t .gives f); takes = ⊎-elim (λ p. absurd (refuted s e p)) (t .takes) }
+says-or {a = true} s t = record { gives = λ _. inl (s .gives refl); takes = λ _. refl }
+says-or {a = false} s t = record { gives = λ f. inr (t .gives f); takes = ⊎-elim (λ p. clash (s .takes p) refl) (t .takes) }
 
 -- a test that stands before another: the other matters only where the first fails
 pub says-unless : {a b : Bool} {P Q : Type 0} → Says a P → Says b Q → Says (a || b) (¬ P → Q)
@@ -82,10 +73,5 @@ says-if s t = says-map (λ f p. f (λ q. q p)) (λ f q. elim (decided s) [ yes p
 
 -- two tests of one statement are one
 pub says-same : {a b : Bool} {P : Type 0} → Says a P → Says b P → a ≡ b
-says-same {a} {b} s t = go a b refl refl
-  where
-    go : (c d : Bool) → a ≡ c → b ≡ d → c ≡ d
-    go true true e f = refl
-    go false false e f = refl
-    go true false e f = sym (sym f ∙ t .takes (s .gives e))
-    go false true e f = sym e ∙ s .takes (t .gives f)
+says-same {a = true} s t = sym (t .takes (s .gives refl))
+says-same {a = false} s t = sym (refutes t (refuted s refl))

@@ -20,34 +20,19 @@ module _ {T : Tree} {L : Relation} (N : Network T L) (link? : Decided L) where
   open Tree T using (size, hub, up)
 
   uplink? : (a b : ℕ) → Dec (Uplink T a b)
-  uplink? a b = map-dec (λ k. record { low = k .0; other = k .1 .0; to = k .1 .1 }) (λ r. (r .low, (r .other, r .to)))
-      (Dec·and (decLt a size) (Dec·and (Dec·not (ℕ-discrete a hub)) (ℕ-discrete (up a) b)))
+  uplink? a b = map-dec (λ k. search) (λ r. search) (Dec·and (decLt a size) (Dec·and (Dec·not (ℕ-discrete a hub)) (ℕ-discrete (up a) b)))
 
   -- is there a link from P to Q?
   between? : {P Q : ℕ → Type 0} → ((a : ℕ) → a < size → Dec (P a)) → ((b : ℕ) → b < size → Dec (Q b))
       → Dec ((a : ℕ) × (b : ℕ) × L a b × P a × Q b)
-  between? p q = map-dec (λ k. (k .0, k .2 .0, k .2 .2 .0, k .2 .2 .1 .0, k .2 .2 .1 .1))
-      (λ k. (k .0, N .near _ _ (k .2), (k .1, far N (k .2), (k .2, (k .3, k .4)))))
+  between? p q = map-dec (λ k. search) (λ k. (k .0, N .near _ _ (k .2), (k .1, far N (k .2), (k .2, (k .3, k .4)))))
       (any? size (λ a h. any? size (λ b l. Dec·and (link? a b) (Dec·and (p a h) (q b l)))))
 
   escape? : (x y : ℕ) → Dec (Escape T L x y)
-  escape? x y = map-dec (λ k. record { inner = k .0; outer = k .1; link = k .2; below = k .3; beyond = k .4 })
-      (λ g. (g .inner, g .outer, g .link, g .below, g .beyond))
-      (between? (under? (N .rooted) x) (λ b h. Dec·not (under? (N .rooted) y b h)))
+  escape? x y = map-dec (λ k. search) (λ g. search) (between? (under? (N .rooted) x) (λ b h. Dec·not (under? (N .rooted) y b h)))
 
   joins? : (w x y : ℕ) → Dec (Joins T L w x y)
-  joins? w x y = map-dec
-      (λ k. record {
-        left = k .0;
-        right = k .1 .0;
-        apart = k .1 .1 .0;
-        one = k .1 .1 .1 .0;
-        two = k .1 .1 .1 .1;
-        link = k .1 .1 .1 .2;
-        below-left = k .1 .1 .1 .3;
-        below-right = k .1 .1 .1 .4;
-      })
-      (λ j. (j .left, (j .right, (j .apart, (j .one, j .two, j .link, j .below-left, j .below-right)))))
+  joins? w x y = map-dec (λ k. search) (λ j. search)
       (Dec·and (uplink? x w) (Dec·and (uplink? y w) (Dec·and (Dec·not (ℕ-discrete x y))
       (between? (under? (N .rooted) x) (under? (N .rooted) y)))))
 
@@ -55,20 +40,16 @@ module _ {T : Tree} {L : Relation} (N : Network T L) (link? : Decided L) where
   same-group? w = walk? (Joins T L w) size (λ a b j. j .right .low) (joins? w)
 
   carried? : {w c : ℕ} → Uplink T c w → Dec ((m : ℕ) × SameGroup T L w c m × Carries T L m)
-  carried? {w} {c} r = map-dec (λ k. (k .0, k .2 .0, k .2 .1)) (λ k. (k .0, member r (k .1) .low, (k .1, k .2)))
+  carried? {w} {c} r = map-dec (λ k. search) (λ k. (k .0, member r (k .1) .low, (k .1, k .2)))
       (any? size (λ m h. Dec·and (same-group? w c m) (escape? m (up m))))
 
   stuck? : (w : ℕ) → Dec ((c : ℕ) × Stuck T L w c)
-  stuck? w = map-dec (λ k. (k .0, k .2)) (λ k. (k .0, k .1 .0 .low, k .1)) (any? size (λ c h. at c))
-    where
-      at : (c : ℕ) → Dec (Stuck T L w c)
-      at c = dite (uplink? c w)
-          (λ r. dite (carried? r) (λ k. no (λ s. s .1 (k .0) (k .1) (k .2))) (λ q. yes (r, λ m g p. q (m, g, p))))
-          (λ o. no (λ s. o (s .0)))
+  stuck? w = map-dec (λ k. search) (λ k. search) (any? {P = Stuck T L w} size (λ c h. dite (uplink? c w)
+      (λ r. map-dec (λ q. (r, λ m g p. q (m, g, p))) (λ s k. s .1 (k .0) (k .1) (k .2)) (Dec·not (carried? r)))
+      (λ o. no (λ s. o (s .0)))))
 
   split? : (w : ℕ) → Dec ((c : ℕ) × (d : ℕ) × Split T L w c d)
-  split? w = map-dec (λ k. (k .0, k .2 .0, (k .2 .2 .0, k .2 .2 .1 .0, k .2 .2 .1 .1)))
-      (λ k. (k .0, k .2 .0 .low, (k .1, k .2 .1 .low, (k .2 .0, (k .2 .1, k .2 .2)))))
+  split? w = map-dec (λ (c, h, (d, l, (r, (s, q)))). (c, d, (r, s, q))) (λ k. search)
       (any? size (λ c h. any? size (λ d l. Dec·and (uplink? c w) (Dec·and (uplink? d w) (Dec·not (same-group? w c d))))))
 
 pub machine-chokes : MachineChokes

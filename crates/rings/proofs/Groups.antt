@@ -1,7 +1,6 @@
 -- Without w a group of its children keeps together, along the links that join them; and nothing leaves what is below a group
 -- without a carried member: a link from there leads to under w, so to under a child of w, which it joins to the group.
-use mathlib.Core.Path.{sym}
-use mathlib.Core.Logic.{_≢_, ⊎-elim, dite}
+use mathlib.Core.Logic.{_≢_, ⊎-elim, dite, Ne·symm}
 use Prim.Native.Nat.{ℕ}
 use native.Mathlib.Decide.{ℕ-discrete}
 use Rattle.graph.specs.Walk.{Relation, Walk, step}
@@ -15,7 +14,7 @@ use Rattle.rings.proofs.Under.{rest, last, no-return}
 use Rattle.rings.proofs.Roads.{turn, clear, kept}
 
 -- a is below the group of c
-abbrev pub Below : Tree → Relation → ℕ → ℕ → ℕ → Type 0
+abbrev Below : Tree → Relation → ℕ → ℕ → ℕ → Type 0
 Below T L w c a = (m : ℕ) × SameGroup T L w c m × Under T m a
 
 -- a walk that avoids w
@@ -37,7 +36,7 @@ module _ {T : Tree} {L : Relation} (N : Network T L) where
           let j = member r g in
           ⊎-elim (λ e. absurd (o e))
           (λ k. dite (ℕ-discrete m (k .0)) (λ e. (m, g, rw e (k .2)))
-          (λ p. (k .0, join g (one-step (record { left = j; right = k .1; apart = p; one = a; two = b; link = l; below-left = u; below-right = k .2 })), k .2)))
+          (λ p. (k .0, join g (one-step (search)), k .2)))
           (last (rw (j .to) at (kept N (q m g) l u)))
 
   pub turned : {w x y : ℕ} → Road T L w x y → Road T L w y x
@@ -58,13 +57,4 @@ module _ {T : Tree} {L : Relation} (N : Network T L) where
       (step (below-child (j .left) (j .below-left), below-child (j .right) (j .below-right), cross (j .link)) (to-child (j .right) (j .below-right))))
 
   pub mirror : {w x y : ℕ} → SameGroup T L w x y → SameGroup T L w y x
-  mirror = back (λ a b j. record {
-    left = j .right;
-    right = j .left;
-    apart = λ e. j .apart (sym e);
-    one = j .two;
-    two = j .one;
-    link = N .flip _ _ (j .link);
-    below-left = j .below-right;
-    below-right = j .below-left;
-  })
+  mirror = back (λ a b j. search (N .flip _ _ (j .link), Ne·symm (j .apart)))

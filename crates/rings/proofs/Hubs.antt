@@ -10,23 +10,15 @@ use Rattle.rings.specs.Network.{Cabled, Network}
 use Rattle.rings.specs.Ring.{Carries}
 use Rattle.rings.specs.Group.{SameGroup, Split}
 use Rattle.rings.proofs.Under.{last, one-child, hub-over, far}
-use Rattle.rings.proofs.Groups.{member, shut, turned, to-child, through}
+use Rattle.rings.proofs.Groups.{Road, member, shut, turned, to-child, through}
 
 module _ {T : Tree} {L : Relation} (N : Network T L) where
   open Tree T using (size, hub)
 
   pub hub-choke : {c d : ℕ} → Split T L hub c d → Choke size (Cabled T L) hub
-  hub-choke {c} {d} (r, s, q) = record {
-    one = c;
-    two = d;
-    one-in = r .low;
-    two-in = s .low;
-    one-other = r .other;
-    two-other = s .other;
-    parted = λ k.
-        let (m, g, u) = shut N r inward k (c, stay, stay) in
-        q (rw (one-child (N .rooted) (member r g) s u stay) at g);
-  }
+  hub-choke {c} {d} (r, s, q) =
+      let parted : ¬ Road T L hub c d = λ k. let (m, g, u) = shut N r inward k (c, stay, stay) in q (rw (one-child (N .rooted) (member r g) s u stay) at g) in
+      search
     where
       inward : (m : ℕ) → SameGroup T L hub c m → ¬ Carries T L m
       inward m g p = p .beyond (rw (member r g .to) (hub-over (N .rooted) (p .outer) (far N (p .link))))

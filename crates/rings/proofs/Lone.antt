@@ -15,7 +15,7 @@ use Rattle.rings.proofs.Under.{one-child, hub-over, far}
 use Rattle.rings.proofs.Groups.{member}
 
 -- an escape from under x past y is one from under what is over x past what is under y
-pub widen : {T : Tree} {L : Relation} {x x′ y y′ : ℕ} → Under T x′ x → Under T y y′ → Escape T L x y → Escape T L x′ y′
+widen : {T : Tree} {L : Relation} {x x′ y y′ : ℕ} → Under T x′ x → Under T y y′ → Escape T L x y → Escape T L x′ y′
 widen u v g = record { inner = g .inner; outer = g .outer; link = g .link; below = join (g .below) u; beyond = λ k. g .beyond (join k v) }
 
 past : {T : Tree} {L : Relation} {c w : ℕ} → Uplink T c w → Carries T L c → Escape T L c w
@@ -24,7 +24,7 @@ past r g = rw (r .to) at g
 pub carried-rings : CarriedRings
 carried-rings T L c w r g = widen (one-step r) stay (past r g)
 
-pub carries-rings : {T : Tree} {L : Relation} {c w : ℕ} → Uplink T c w → Carries T L c → Rings T L c
+carries-rings : {T : Tree} {L : Relation} {c w : ℕ} → Uplink T c w → Carries T L c → Rings T L c
 carries-rings r g = widen stay (one-step r) (past r g)
 
 pub rings-other : {T : Tree} {L : Relation} {x : ℕ} → Network T L → Rings T L x → x ≢ T .hub
@@ -32,13 +32,9 @@ rings-other N g e = g .beyond (rw e (hub-over (N .rooted) (g .outer) (far N (g .
 
 joined-rings : {T : Tree} {L : Relation} → Network T L → {w c m : ℕ} → SameGroup T L w c m → c ≢ m → Rings T L c
 joined-rings N stay o = absurd (o refl)
-joined-rings N (step j g) o = record {
-  inner = j .one;
-  outer = j .two;
-  link = j .link;
-  below = j .below-left;
-  beyond = λ u. j .apart (one-child (N .rooted) (j .left) (j .right) u (j .below-right));
-}
+joined-rings {T} N {c = c} (step j g) o =
+    let beyond : ¬ Under T c (j .two) = λ u. j .apart (one-child (N .rooted) (j .left) (j .right) u (j .below-right)) in
+    search
 
 pub group-rings : GroupRings
 group-rings T L N w c m = joined-rings N

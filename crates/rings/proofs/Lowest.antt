@@ -1,11 +1,10 @@
 -- The lowest common machine w of a and b. On the way up from a, what is below w is not over b, and w and what is over it is:
 -- two machines on one way up are over one another, and what is over both ends is over w.
-use mathlib.Core.Path.{_≡_}
 use mathlib.Core.Logic.{_≢_, ⊎-elim}
 use Prim.Native.Nat.{ℕ, _<_}
 use Rattle.graph.proofs.Walks.{one-step, join}
 use Rattle.rings.specs.Tree.{Tree, Under, Rooted, Lowest}
-use Rattle.rings.proofs.Under.{uplinked, chain, rest, at-hub, in-tree, antisym, hub-over}
+use Rattle.rings.proofs.Under.{uplinked, chain, rest, at-hub, in-tree, antisym}
 
 pub turn : {T : Tree} {a b w : ℕ} → Lowest T a b w → Lowest T b a w
 turn m = record { left = m .right; right = m .left; lowest = λ z u v. m .lowest z v u }
@@ -16,10 +15,6 @@ leaves-on m v q = (⊎-elim (λ u. absurd (q (join (m .right) u))) (λ u. u) (ch
 module _ {T : Tree} {rank : ℕ → ℕ} (R : Rooted T rank) where
   open Tree T using (size, hub, up)
 
-  -- two lowest are one
-  pub one : {a b v w : ℕ} → Lowest T a b v → Lowest T a b w → v ≡ w
-  one {v = v} {w} m n = antisym R (m .lowest w (n .left) (n .right)) (n .lowest v (m .left) (m .right))
-
   module _ {a b w : ℕ} (m : Lowest T a b w) where
     pub on-leaves : {x : ℕ} → Under T w x → Under T x a → x ≢ w → ¬ Under T x b
     on-leaves {x} u v o q = o (antisym R u (m .lowest x v q))
@@ -29,7 +24,3 @@ module _ {T : Tree} {rank : ℕ → ℕ} (R : Rooted T rank) where
     deep-leaves {x} h u v o p q =
         let r = uplinked (in-tree R v h) (λ e. o (at-hub u e)) in
         p (antisym R (rest r o u) (m .lowest (up x) (join v (one-step r)) q))
-
-  -- whose up is not over b is not over b itself
-  pub not-over : {a b x : ℕ} → up hub ≡ hub → a < size → b < size → Under T x a → ¬ Under T (up x) b → ¬ Under T x b
-  not-over {b = b} e h k v q u = q (join u (one-step (uplinked (in-tree R v h) (λ i. q (rw (i, e) (hub-over R b k))))))

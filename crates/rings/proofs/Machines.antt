@@ -14,15 +14,12 @@ use Rattle.rings.proofs.Groups.{Road, member, shut, turned, ascent, bel
 
 module _ {T : Tree} {L : Relation} (N : Network T L) where
   pub machine-choke : {v w c : ℕ} → Uplink T w v → Stuck T L w c → Choke (T .size) (Cabled T L) w
-  machine-choke {v} {w} {c} s (r, q) = record {
-    one = c;
-    two = v;
-    one-in = r .low;
-    two-in = N .rooted .low s;
-    one-other = λ e. no-return (N .rooted) r (rw e stay);
-    two-other = λ e. no-return (N .rooted) s (rw e stay);
-    parted = λ k. let (m, g, u) = shut N r q k (c, stay, stay) in no-return (N .rooted) (member r g) (step s u);
-  }
+  machine-choke {v} {w} {c} s (r, q) =
+      let in-v = N .rooted .low s in
+      let other-c : c ≢ w = λ e. no-return (N .rooted) r (rw e stay) in
+      let other-v : v ≢ w = λ e. no-return (N .rooted) s (rw e stay) in
+      let parted : ¬ Road T L w c v = λ k. let (m, g, u) = shut N r q k (c, stay, stay) in no-return (N .rooted) (member r g) (step s u) in
+      search
 
   pub machine-spare : {w : ℕ} → ((c : ℕ) → Uplink T c w → (m : ℕ) × SameGroup T L w c m × Carries T L m)
       → ¬ Choke (T .size) (Cabled T L) w

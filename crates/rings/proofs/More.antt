@@ -9,24 +9,23 @@ use Rattle.rings.specs.Ring.{Escape}
 use Rattle.rings.specs.Group.{Joins, SameGroup}
 use Rattle.rings.specs.Statements.{FurtherLinks}
 
-module _ {T : Tree} {L M : Relation} (f : (a b : ℕ) → L a b → M a b) where
-  pub escape-map : {x y : ℕ} → Escape T L x y → Escape T M x y
-  escape-map g = record { inner = g .inner; outer = g .outer; link = f _ _ (g .link); below = g .below; beyond = g .beyond }
+module _ {T : Tree} {L M : Relation} where
+  -- the same by another link between the same machines
+  pub escape-by : {x y : ℕ} (g : Escape T L x y) → M (g .inner) (g .outer) → Escape T M x y
+  escape-by g l = search
 
-  pub joins-map : {w x y : ℕ} → Joins T L w x y → Joins T M w x y
-  joins-map j = record {
-    left = j .left;
-    right = j .right;
-    apart = j .apart;
-    one = j .one;
-    two = j .two;
-    link = f _ _ (j .link);
-    below-left = j .below-left;
-    below-right = j .below-right;
-  }
+  pub joins-by : {w x y : ℕ} (j : Joins T L w x y) → M (j .one) (j .two) → Joins T M w x y
+  joins-by j l = search
 
-  pub group-map : {w x y : ℕ} → SameGroup T L w x y → SameGroup T M w x y
-  group-map = map (λ a b. joins-map)
+  module _ (f : (a b : ℕ) → L a b → M a b) where
+    pub escape-map : {x y : ℕ} → Escape T L x y → Escape T M x y
+    escape-map g = escape-by g (f _ _ (g .link))
+
+    pub joins-map : {w x y : ℕ} → Joins T L w x y → Joins T M w x y
+    joins-map j = joins-by j (f _ _ (j .link))
+
+    pub group-map : {w x y : ℕ} → SameGroup T L w x y → SameGroup T M w x y
+    group-map = map (λ a b. joins-map)
 
 cable-map : {U L M : Relation} → ((a b : ℕ) → L a b → M a b) → (a b : ℕ) → Cable U L a b → Cable U M a b
 cable-map f a b (rising u) = rising u

@@ -27,4 +27,4 @@ until {v = v} {a} (step r u) = dite (ℕ-discrete a v) (λ e. rw e stay) (λ o. 
 -- where no link leads from under x to what is not under y, a link from under x leads to under y
 pub kept : {T : Tree} {L : Relation} → Network T L → {x y a b : ℕ} → ¬ Escape T L x y → L a b → Under T x a → Under T y b
 kept N {x} {y} {a} {b} q l u = dite (under? (N .rooted) y b (far N l)) (λ k. k)
-    (λ o. absurd (q (record { inner = a; outer = b; link = l; below = u; beyond = o })))
+    (λ o. absurd (q (search)))

@@ -1,7 +1,7 @@
 -- The laws can be met: a hub with two machines. Without a cross link between them it is a choke: they are two groups. With one it is not.
 use mathlib.Core.Path.{_≡_, refl, ap}
-use mathlib.Core.Logic.{inl, ⊎-swap, ⊎-elim, dite}
-use mathlib.Core.List.{[], _∷_, List·Memᴰ·head, List·Memᴰ·not-nil, List·Memᴰ·eq-of-singleton}
+use mathlib.Core.Logic.{inl, ⊎-elim, dite}
+use mathlib.Core.List.{[], _∷_}
 use Prim.Native.Nat.{ℕ}
 use native.Mathlib.Decide.{ℕ-discrete}
 use native.Mathlib.Omega.{arith}
@@ -9,6 +9,8 @@ use Rattle.graph.specs.Walk.{stay, step}
 use Rattle.graph.specs.Choke.{Choke}
 use Rattle.graph.specs.Cable.{Cables, Within, Linked}
 use Rattle.graph.proofs.Walks.{one-step}
+use Rattle.graph.proofs.Members.{here, empty, single}
+use Rattle.graph.proofs.Cables.{flip, linked-near}
 use Rattle.rings.specs.Tree.{Tree, Uplink, Rooted}
 use Rattle.rings.specs.Network.{Network, Cabled}
 use Rattle.rings.specs.Group.{SameGroup}
@@ -22,7 +24,7 @@ rooted : Rooted star (λ v. v)
 rooted = record { low = λ r. omega (arith, r .to); falls = λ r. omega (arith, r .to, r .other) }
 
 with-links : {E : Cables} → Within 3 E → Network star (Linked E)
-with-links q = record { rank = _; rooted = rooted; flip = λ a b. ⊎-swap; near = λ a b. ⊎-elim (λ m. q a b m .0) (λ m. q b a m .1) }
+with-links {E} q = record { rank = _; rooted = rooted; flip = flip E; near = λ a b l. linked-near E q a b l .0 }
 
 one : Uplink star 1 0
 one = record { low = omega arith; other = omega arith; to = refl }
@@ -31,32 +33,23 @@ two : Uplink star 2 0
 two = record { low = omega arith; other = omega arith; to = refl }
 
 pub bare-choke : Choke 3 (Cabled star (Linked [])) 0
-bare-choke = hub-choke (with-links (λ a b m. absurd (List·Memᴰ·not-nil m))) (one, two, go refl refl)
+bare-choke = hub-choke (with-links (λ a b m. absurd (empty m))) (one, two, go refl refl)
   where
     go : {a b : ℕ} → a ≡ 1 → b ≡ 2 → ¬ SameGroup star (Linked []) 0 a b
     go p q stay = omega arith
-    go p q (step j g) = ⊎-elim List·Memᴰ·not-nil List·Memᴰ·not-nil (j .link)
+    go p q (step j g) = ⊎-elim empty empty (j .link)
 
 abbrev wire : Cables
 wire = (1, 2) ∷ []
 
 wired : Network star (Linked wire)
-wired = with-links (λ a b m. let e = List·Memᴰ·eq-of-singleton m in (omega (arith, ap (λ p. p .0) e), omega (arith, ap (λ p. p .1) e)))
+wired = with-links (λ a b m. let e = single m in (omega (arith, ap (λ p. p .0) e), omega (arith, ap (λ p. p .1) e)))
 
 pub wired-none : ¬ Choke 3 (Cabled star (Linked wire)) 0
 wired-none = hub-spare wired go
   where
     hop : {a b : ℕ} → a ≡ 1 → b ≡ 2 → SameGroup star (Linked wire) 0 a b
-    hop p q = rw (p, q) (one-step (record {
-      left = one;
-      right = two;
-      apart = omega arith;
-      one = 1;
-      two = 2;
-      link = inl (List·Memᴰ·head refl);
-      below-left = stay;
-      below-right = stay;
-    }))
+    hop p q = rw (p, q) (one-step (record { left = one; right = two; apart = omega arith; one = 1; two = 2; link = inl (here refl); below-left = stay; below-right = stay }))
 
     go : (c d : ℕ) → Uplink star c 0 → Uplink star d 0 → SameGroup star (Linked wire) 0 c d
     go c d r s = dite (ℕ-discrete c d) (λ e. rw e stay) λ o. dite (ℕ-discrete c 1)

@@ -11,7 +11,7 @@ use Rattle.rings.proofs.Under.{rest, no-return, hub-over, far}
 use Rattle.rings.proofs.Roads.{turn, clear, until, kept}
 
 module _ {T : Tree} {L : Relation} (N : Network T L) where
-  pub uplink-choke : {v w : ℕ} → Uplink T v w → ¬ Rings T L v → ¬ Walk (CabledBut T L v) v w
+  uplink-choke : {v w : ℕ} → Uplink T v w → ¬ Rings T L v → ¬ Walk (CabledBut T L v) v w
   uplink-choke {v} r q k = no-return (N .rooted) r (closed (Under T v) keep k stay)
     where
       keep : (a b : ℕ) → CabledBut T L v a b → Under T v a → Under T v b
@@ -19,7 +19,7 @@ module _ {T : Tree} {L : Relation} (N : Network T L) where
       keep a b (falling s) u = step (s .1) u
       keep a b (cross l) u = kept N q l u
 
-  pub uplink-spare : {v w : ℕ} → Uplink T v w → Rings T L v → Walk (CabledBut T L v) v w
+  uplink-spare : {v w : ℕ} → Uplink T v w → Rings T L v → Walk (CabledBut T L v) v w
   uplink-spare {v} {w} r g =
       join (back (turn (N .flip)) (map (λ a b s. rising s) (until (g .below)))) (step (cross (g .link))
       (join (home (g .beyond) (far N (g .link))) (back (turn (N .flip)) (home (no-return (N .rooted) r) (N .rooted .low r)))))

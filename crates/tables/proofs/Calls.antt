@@ -19,13 +19,13 @@ use Rattle.tables.specs.Demand1.{SoundTree}
 use Rattle.tables.specs.Calls.{CallsLive, Limits}
 use Rattle.tables.proofs.Verdicts.{checks-one, unless-sound}
 use Rattle.tables.proofs.Sound.{sound-tree}
-use Rattle.tables.proofs.Histories.{network, links-good, told}
+use Rattle.tables.proofs.Histories.{lived-network, told}
 use Rattle.tables.proofs.Rise.{rise-is}
 use Rattle.tables.proofs.Kept.{told-kept, kept-sound}
 
 module _ {up : List ℕ} {h : History} (s : SoundTree up) (f : Accepted (length up) h) where
   pub rules-met : rulesVerdict up (tables up h) ≡ Sound
-  rules-met = kept-sound up (tables up h) (told-kept s (network s (links h) (links-good (length up) h f)) (told s h f))
+  rules-met = kept-sound up (tables up h) (told-kept s (lived-network s h f) (told s h f))
 
   pub sizes-met : checks (tableSizes up (tables up h)) ≡ Sound
   unfolding checks tableSizes

@@ -1,17 +1,19 @@
 -- Climbing, and why the hub is reached in fewer than n steps or never: the machines met on a shortest climb are all different, and there are n.
 use mathlib.Core.Path.{_≡_, sym, ap, _∙_}
-use mathlib.Core.Bool.{Bool, false}
+use mathlib.Core.Bool.{Bool, true, false}
 use mathlib.Core.List.{List}
-use Prim.Native.Nat.{ℕ, zero, suc, _+_, _-_, _<_}
+use mathlib.Core.Logic.{dite}
+use Prim.Native.Nat.{ℕ, zero, suc, _+_, _-_, _<_, _≤_}
 use native.Mathlib.Nat.{zero-add, suc-add}
+use native.Mathlib.Decide.{decLt}
 use native.Mathlib.Omega.{arith}
 use lib.ListN.{length}
-use lib.Dec.{ltb, eqb}
-use borrow.Author.Tests.{eq-eqb, eqb-true, ltb-true, ltb-false}
+use lib.Dec.{eqb}
+use borrow.Author.Tests.{eq-eqb, eqb-true}
 use Rattle.plain.specs.Search.{least}
 use Rattle.plain.specs.Table.{at}
-use Rattle.plain.proofs.Says.{by-cases, clash}
-use Rattle.plain.proofs.Least.{Least, least-has}
+use Rattle.plain.proofs.Says.{clash}
+use Rattle.plain.proofs.Least.{least-has, least-le}
 use Rattle.plain.proofs.Pigeon.{pigeon}
 use Rattle.tables.specs.Tree.{climb, hub, Inside, Reaches, depthOf}
 
@@ -25,15 +27,14 @@ unfolding climb
 climb-in up w zero v h = h
 climb-in up w (suc k) v h = climb-in up w k (at up v) (w v h)
 
--- the test of k steps
-abbrev at-hub : List ℕ → ℕ → ℕ → Bool
-at-hub up v k = eqb (climb up k v) (hub up)
+-- k steps from v lead to the hub
+abbrev pub arrives : List ℕ → ℕ → ℕ → Bool
+arrives up v k = eqb (climb up k v) (hub up)
 
 module _ (up : List ℕ) (v : ℕ) (w : Inside up) (h : v < length up) where
   -- no shortest climb has n steps: it would come by one machine twice, and be shorter by what lies between
-  shortest : (d : ℕ) → climb up d v ≡ hub up → ((k : ℕ) → k < d → at-hub up v k ≡ false) → d < length up
-  shortest d e none = by-cases (ltb d (length up)) (ltb-true d (length up)) λ t.
-      let l = ltb-false d (length up) t in
+  shortest : (d : ℕ) → climb up d v ≡ hub up → ((k : ℕ) → k < d → arrives up v k ≡ false) → d < length up
+  shortest d e none = dite (decLt d (length up)) (λ l. l) λ o.
       absurd (pigeon (length up) (λ k. climb up k v) (λ k _. climb-in up w k v h) (λ i j b c q.
       let m : j + (d - j) ≡ d = omega arith in
       clash (eq-eqb (climb up (i + (d - j)) v) (hub up)
@@ -44,17 +45,14 @@ module _ (up : List ℕ) (v : ℕ) (w : Inside up) (h : v < length up) where
   pub reaches-soon : Reaches up v → depthOf up v < length up
   unfolding depthOf
   reaches-soon (k, e) =
-      let n = length up in
-      let p = at-hub up v in
-      let l : Least k p (least k p) = least-has k p in
-      let m : climb up (least k p) v ≡ hub up = by-cases (ltb (least k p) k)
-      (λ t. eqb-true _ _ (l .here (ltb-true _ _ t)))
-      (λ t. let q : least k p ≡ k = omega (arith, l .le, ltb-false (least k p) k t) in rw q e) in
-      let s = shortest (least k p) m (l .before) in
-      by-cases (ltb (least n p) n) (ltb-true _ _) λ t.
-      let b = ltb-false (least n p) n t in
-      clash (eq-eqb (climb up (least k p) v) (hub up) m) (least-has n p .before (least k p) (omega arith))
+      let p = arrives up v in
+      let d = least (suc k) p in
+      let l = least-has (suc k) p in
+      let b : d ≤ k = least-le (suc k) p k (eq-eqb _ _ e) in
+      let t : p d ≡ true = l .here (omega arith) in
+      let s = shortest d (eqb-true _ _ t) (l .before) in
+      omega (arith, least-le (length up) p d t)
 
 pub soon-reaches : (up : List ℕ) (v : ℕ) → depthOf up v < length up → Reaches up v
 unfolding depthOf
-soon-reaches up v h = let n = length up in let p = at-hub up v in (least n p, eqb-true _ _ (least-has n p .here h))
+soon-reaches up v h = let n = length up in let p = arrives up v in (least n p, eqb-true _ _ (least-has n p .here h))

@@ -2,8 +2,8 @@
 -- so nothing has to be stepped through.
 use mathlib.Core.Path.{_≡_, refl, sym, ap, subst}
 use mathlib.Core.Bool.{Bool, true, false, cond, not}
-use mathlib.Core.List.{List, [], _∷_, _++_, map, List·Memᴰ, Memᴰ·of-map, List·Memᴰ·head, List·Memᴰ·not-nil, List·Memᴰ·eq-of-singleton, List·Memᴰ·append-cases, Memᴰ·append-left, Memᴰ·append-right}
-use mathlib.Core.Logic.{inl, inr, ⊎-elim, dite}
+use mathlib.Core.List.{List, [], _∷_, map, Memᴰ·of-map}
+use mathlib.Core.Logic.{_⊎_, inl, inr, ⊎-map, dite}
 use Prim.Native.Nat.{ℕ, zero, suc, _<_}
 use native.Mathlib.Decide.{ℕ-discrete}
 use native.Mathlib.Omega.{arith}
@@ -12,9 +12,11 @@ use lib.Dec.{eqb, leb}
 use borrow.Author.Tests.{ne-eqb, lt-leb}
 use Rattle.plain.proofs.Says.{Says, says-eq, says-le, says-not}
 use Rattle.plain.specs.Table.{at}
-use Rattle.graph.specs.Cable.{Linked}
+use Rattle.plain.specs.Member.{_∈_}
+use Rattle.graph.specs.Cable.{Cables, Linked}
+use Rattle.graph.proofs.Members.{here, there, empty, cases}
 use Rattle.tables.specs.Batch.{pairs, lengthVerdict, endsVerdict, batchVerdict}
-use Rattle.tables.specs.History.{History, Accepted, links, tables}
+use Rattle.tables.specs.History.{Accepted, Left, links}
 use Rattle.tables.specs.Tables.{Tables}
 use Rattle.tables.specs.Tree.{depthOf}
 use Rattle.tables.specs.Verdict.{Sound, checks}
@@ -25,74 +27,72 @@ use Rattle.tables.proofs.Sound.{depth-up}
 use Rattle.tables.proofs.Told.{Told, told-map, told-one}
 use Rattle.tables.proofs.Wanted.{Wanted, ring, carry, tie, ringed-other, tied-other, name-up, second, wants-told}
 
--- The wanted links as a list, and as a history.
-maybe : Bool → ℕ × ℕ → List (ℕ × ℕ)
-maybe b p = cond b (p ∷ []) []
+-- p in front of l, where the test holds
+maybe : Bool → ℕ × ℕ → Cables → Cables
+maybe b p l = cond b (p ∷ l) l
 
-maybe-in : {b : Bool} {p q : ℕ × ℕ} {P : Type 0} → Says b P → List·Memᴰ q (maybe b p) → P × (q ≡ p)
+maybe-in : {b : Bool} {v w x y : ℕ} {l : Cables} {P : Type 0} → Says b P → (x, y) ∈ maybe b (v, w) l → (P × (x ≡ v) × (y ≡ w)) ⊎ ((x, y) ∈ l)
 unfolding maybe
-maybe-in {b} {p} {q} {P} s = go b refl
-  where
-    go : (c : Bool) → b ≡ c → List·Memᴰ q (cond c (p ∷ []) []) → P × (q ≡ p)
-    go true e m = (s .gives e, List·Memᴰ·eq-of-singleton m)
-    go false e m = absurd (List·Memᴰ·not-nil m)
+maybe-in {b = true} s m = ⊎-map (λ e. (s .gives refl, ap (λ q. q .0) e, ap (λ q. q .1) e)) (λ i. i) (cases m)
+maybe-in {b = false} s m = inr m
 
-in-maybe : {b : Bool} {P : Type 0} (p : ℕ × ℕ) → Says b P → P → List·Memᴰ p (maybe b p)
+in-maybe : {b : Bool} {p : ℕ × ℕ} (l : Cables) {P : Type 0} → Says b P → P → p ∈ maybe b p l
 unfolding maybe
-in-maybe p s h = rw (s .takes h) (List·Memᴰ·head refl)
+in-maybe l s h = rw (s .takes h) (here refl)
+
+past-maybe : (b : Bool) (p : ℕ × ℕ) {q : ℕ × ℕ} {l : Cables} → q ∈ l → q ∈ maybe b p l
+unfolding maybe
+past-maybe true p m = there m
+past-maybe false p m = m
 
 module _ (up : List ℕ) (t : Tables) where
-  wish : ℕ → List (ℕ × ℕ)
-  wish v =
-      maybe (leb 1 (at (t .mark) v)) (v, at up v) ++ (maybe (eqb (at (t .mark) v) 2) (v, at up (at up v))
-      ++ maybe (not (eqb (at (t .group) v) v)) (v, at (t .group) v))
-
-  pub wishes : ℕ → List (ℕ × ℕ)
+  -- the wanted links of the machines below n, as a list
+  wishes : ℕ → Cables
   wishes zero = []
-  wishes (suc n) = wish n ++ wishes n
+  wishes (suc v) = maybe (leb 1 (at (t .mark) v)) (v, at up v) (maybe (eqb (at (t .mark) v) 2) (v, at up (at up v))
+      (maybe (not (eqb (at (t .group) v) v)) (v, at (t .group) v) (wishes v)))
 
-  wish-wanted : {v a b : ℕ} → List·Memᴰ (a, b) (wish v) → (a ≡ v) × Wanted up t v b
-  unfolding wish
-  wish-wanted {v} {a} {b} m = ⊎-elim
-      (λ i. let (p, e) = maybe-in (says-le 1 (at (t .mark) v)) i in (ap (λ q. q .0) e, rw (ap (λ q. q .1) e) (ring p)))
-      (λ i. ⊎-elim
-      (λ i. let (p, e) = maybe-in (says-eq (at (t .mark) v) 2) i in (ap (λ q. q .0) e, rw (ap (λ q. q .1) e) (carry p)))
-      (λ i. let (p, e) = maybe-in (says-not (says-eq (at (t .group) v) v)) i in (ap (λ q. q .0) e, rw (ap (λ q. q .1) e) (tie p)))
-      (List·Memᴰ·append-cases (maybe (eqb (at (t .mark) v) 2) (v, at up (at up v))) i))
-      (List·Memᴰ·append-cases (maybe (leb 1 (at (t .mark) v)) (v, at up v)) m)
-
-  wanted-wish : {v b : ℕ} → Wanted up t v b → List·Memᴰ (v, b) (wish v)
-  unfolding wish
-  wanted-wish {v} (ring p) = Memᴰ·append-left _ (in-maybe _ (says-le 1 (at (t .mark) v)) p)
-  wanted-wish {v} (carry p) = Memᴰ·append-right (maybe (leb 1 (at (t .mark) v)) (v, at up v)) (Memᴰ·append-left _ (in-maybe _ (says-eq (at (t .mark) v) 2) p))
-  wanted-wish {v} (tie p) = Memᴰ·append-right (maybe (leb 1 (at (t .mark) v)) (v, at up v))
-      (Memᴰ·append-right (maybe (eqb (at (t .mark) v) 2) (v, at up (at up v))) (in-maybe _ (says-not (says-eq (at (t .group) v) v)) p))
-
-  wishes-wanted : (n : ℕ) {a b : ℕ} → List·Memᴰ (a, b) (wishes n) → (a < n) × Wanted up t a b
+  wishes-wanted : (n : ℕ) {a b : ℕ} → (a, b) ∈ wishes n → (a < n) × Wanted up t a b
   unfolding wishes
-  wishes-wanted zero m = absurd (List·Memᴰ·not-nil m)
-  wishes-wanted (suc n) m = ⊎-elim (λ i. let (e, p) = wish-wanted i in (omega arith, rw e p)) (λ i. let (h, p) = wishes-wanted n i in (omega arith, p)) (List·Memᴰ·append-cases (wish n) m)
+  wishes-wanted zero m = absurd (empty m)
+  wishes-wanted (suc v) m = elim (maybe-in (says-le 1 (at (t .mark) v)) m) [
+    | inl k ↦ (omega (arith, k .1), rw (k .1, k .2) (ring (k .0)))
+    | inr m ↦ elim (maybe-in (says-eq (at (t .mark) v) 2) m) [
+      | inl k ↦ (omega (arith, k .1), rw (k .1, k .2) (carry (k .0)))
+      | inr m ↦ elim (maybe-in (says-not (says-eq (at (t .group) v) v)) m) [
+        | inl k ↦ (omega (arith, k .1), rw (k .1, k .2) (tie (k .0)))
+        | inr m ↦ (let (h, w) = wishes-wanted v m in (omega arith, w))
+      ]
+    ]
+  ]
 
-  wanted-wishes : (n : ℕ) {a b : ℕ} → a < n → Wanted up t a b → List·Memᴰ (a, b) (wishes n)
+  newest-wish : {v b : ℕ} → Wanted up t v b → (v, b) ∈ wishes (suc v)
+  unfolding wishes
+  newest-wish {v} (ring p) = in-maybe _ (says-le 1 (at (t .mark) v)) p
+  newest-wish {v} (carry p) = past-maybe _ _ (in-maybe _ (says-eq (at (t .mark) v) 2) p)
+  newest-wish {v} (tie p) = past-maybe _ _ (past-maybe _ _ (in-maybe _ (says-not (says-eq (at (t .group) v) v)) p))
+
+  wanted-wishes : (n : ℕ) {a b : ℕ} → a < n → Wanted up t a b → (a, b) ∈ wishes n
   unfolding wishes
   wanted-wishes zero h p = absurd (omega arith)
-  wanted-wishes (suc n) {a} {b} h p = dite (ℕ-discrete a n) (λ e. Memᴰ·append-left (wishes n) (subst (λ v. List·Memᴰ (a, b) (wish v)) e (wanted-wish p))) (λ o. Memᴰ·append-right (wish n) (wanted-wishes n (omega arith) p))
+  wanted-wishes (suc n) {a} {b} h p = dite (ℕ-discrete a n) (λ e. subst (λ v. (a, b) ∈ wishes (suc v)) e (newest-wish p))
+      (λ o. past-maybe _ _ (past-maybe _ _ (past-maybe _ _ (wanted-wishes n (omega arith) p))))
 
 -- each link a batch
-abbrev single : ℕ × ℕ → List ℕ
-single p = p .0 ∷ (p .1 ∷ [])
+abbrev alone : ℕ × ℕ → List ℕ
+alone p = p .0 ∷ (p .1 ∷ [])
 
-links-single : (l : List (ℕ × ℕ)) → links (map single l) ≡ l
+links-alone : (l : Cables) → links (map alone l) ≡ l
 unfolding links pairs
-links-single [] = refl
-links-single (p ∷ l) = ap (λ k. p ∷ k) (links-single l)
+links-alone [] = refl
+links-alone (p ∷ l) = ap (λ k. p ∷ k) (links-alone l)
 
-single-sound : (n : ℕ) (p : ℕ × ℕ) → Good n p → batchVerdict n (single p) ≡ Sound
+alone-sound : (n : ℕ) (p : ℕ × ℕ) → Good n p → batchVerdict n (alone p) ≡ Sound
 unfolding batchVerdict lengthVerdict endsVerdict checks pairs
-single-sound n p g = rw (lt-leb n (p .0) (g .one), lt-leb n (p .1) (g .two), ne-eqb (p .0) (p .1) (g .apart))
+alone-sound n p g = rw (lt-leb n (p .0) (g .one), lt-leb n (p .1) (g .two), ne-eqb (p .0) (p .1) (g .apart))
 
-single-accepted : (n : ℕ) (l : List (ℕ × ℕ)) → AllGood n l → Accepted n (map single l)
-single-accepted n l g batch m = let (p, i, e) = Memᴰ·of-map single l m in rw (← e) (single-sound n p (g p i))
+alone-accepted : (n : ℕ) (l : Cables) → AllGood n l → Accepted n (map alone l)
+alone-accepted n l g batch m = let (p, i, e) = Memᴰ·of-map alone l m in rw (← e) (alone-sound n p (g p i))
 
 module _ {up : List ℕ} {t : Tables} (s : SoundTree up) (k : (v : ℕ) → v < length up → Kept up t v) where
   wanted-good : {v b : ℕ} → v < length up → Wanted up t v b → Good (length up) (v, b)
@@ -106,13 +106,12 @@ module _ {up : List ℕ} {t : Tables} (s : SoundTree up) (k : (v : ℕ) → v < 
   all-good p m = let (h, w) = wishes-wanted up t (length up) m in wanted-good h w
 
   -- A history that leaves these tables.
-  pub complete : length (t .depth) ≡ length up → length (t .group) ≡ length up → length (t .mark) ≡ length up
-      → (h : History) × Accepted (length up) h × (tables up h ≡ t)
+  pub complete : length (t .depth) ≡ length up → length (t .group) ≡ length up → length (t .mark) ≡ length up → Left up t
   complete ld lg lm =
       let l = wishes up t (length up) in
-      let a = single-accepted (length up) l all-good in
+      let a = alone-accepted (length up) l all-good in
       let q : Told up (Linked l) t = told-map
-      (λ x y. ⊎-elim (λ p. inl (wanted-wishes up t (length up) (p .0) (p .1))) (λ p. inr (wanted-wishes up t (length up) (p .0) (p .1))))
-      (λ x y. ⊎-elim (λ m. inl (wishes-wanted up t (length up) m)) (λ m. inr (wishes-wanted up t (length up) m)))
+      (λ x y. ⊎-map (λ p. wanted-wishes up t (length up) (p .0) (p .1)) (λ p. wanted-wishes up t (length up) (p .0) (p .1)))
+      (λ x y. ⊎-map (wishes-wanted up t (length up)) (wishes-wanted up t (length up)))
       (wants-told s k ld lg lm) in
-      (map single l, a, told-one (rw links-single at (told s (map single l) a)) q)
+      (map alone l, a, told-one (rw links-alone at (told s (map alone l) a)) q)

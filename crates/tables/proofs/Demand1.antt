@@ -1,25 +1,22 @@
 -- Demand 1. That the rules are exact is both halves together: no history breaks one, and for tables that break none a history is given.
 -- Add and Report come to the rules once the lengths and the tree are right, and no later check answers 6.
-use mathlib.Core.Path.{_≡_, refl, sym, _∙_}
-use mathlib.Core.Bool.{Bool, true, false, _&&_, _||_}
+use mathlib.Core.Path.{_≡_, refl, _∙_}
 use mathlib.Core.List.{List, [], _∷_}
-use mathlib.Core.Logic.{_≢_, _⊎_, ⊎-elim, _↔_}
-use Prim.Native.Nat.{ℕ, suc, _≤_, _%_, _*_}
+use mathlib.Core.Logic.{_≢_, ⊎-elim, _↔_}
+use Prim.Native.Nat.{ℕ}
 use native.Mathlib.Omega.{arith}
 use lib.ListN.{length}
-use lib.Dec.{eqb, leb}
 use borrow.Author.Tests.{eq-eqb, eqb-true}
-use Rattle.plain.proofs.Says.{by-cases}
-use Rattle.graph.specs.Cable.{Cables}
-use Rattle.tables.specs.Verdict.{Verdict, Sound, Refused, checks, unless}
+use Rattle.tables.specs.Verdict.{Verdict, Sound, Refused, checks}
 use Rattle.tables.specs.Tree.{treeVerdict, sizeVerdict}
 use Rattle.tables.specs.Tables.{Tables, tableSizes}
-use Rattle.tables.specs.Batch.{mostLinks, pairs, lengthVerdict, endsVerdict, batchVerdict}
+use Rattle.tables.specs.Batch.{batchVerdict}
 use Rattle.tables.specs.History.{Left}
 use Rattle.tables.specs.Rules.{breaks, rulesVerdict}
 use Rattle.tables.specs.Outcome.{answer, Bytes, startOf, addVerdict, addOf, reportVerdict, reportOf}
 use Rattle.tables.specs.Demand1.{TablesExact, Demand1}
-use Rattle.tables.proofs.Verdicts.{not-both, no-check, all-sound, first-refused, unless-sound, refuse-view, refused-at}
+use Rattle.tables.proofs.Verdicts.{not-both, all-sound, Avoids, All, checks-avoid, unless-sound, refuse-view, refused-at}
+use Rattle.tables.proofs.Codes.{batch-avoids}
 use Rattle.tables.proofs.Sound.{sound-tree, trees-exact}
 use Rattle.tables.proofs.Kept.{sound-kept}
 use Rattle.tables.proofs.Complete.{complete}
@@ -34,33 +31,8 @@ rules-exact up t e z =
       λ k. rw (k .2) at (rules-met s (k .1)),
     )
 
-rules-view : (up : List ℕ) (t : Tables) → (rulesVerdict up t ≡ Sound) ⊎ ((v : ℕ) × (rulesVerdict up t ≡ Refused 6 v))
-unfolding rulesVerdict
-rules-view up t = refuse-view 6 (length up) (breaks up t)
-
--- a batch is refused with 7 or more
-pub unless-code : {c v : ℕ} (b : Bool) (code value : ℕ) → unless b code value ≡ Refused c v → c ≡ code
-unless-code true code value e = not-both e refl
-unless-code false code value e = cc
-
-ends-code : {c v : ℕ} (n i : ℕ) (l : Cables) → endsVerdict n i l ≡ Refused c v → 7 ≤ c
-unfolding endsVerdict
-ends-code n i [] e = not-both e refl
-ends-code {c} {v} n i (p ∷ l) e = let ih = ends-code {c = c} {v = v} n (suc i) l in by-cases (leb n (p .0) || leb n (p .1))
-    (λ f. let g : Refused 8 i ≡ Refused c v = rw f at e in let z : _≡_ {A = ℕ} 8 c = cc in omega arith)
-    (λ f. by-cases (eqb (p .0) (p .1))
-    (λ q. let g : Refused 9 i ≡ Refused c v = rw (f, q) at e in let z : _≡_ {A = ℕ} 9 c = cc in omega arith)
-    (λ q. ih (rw (f, q) at e)))
-
-pub batch-code : {c v : ℕ} (n : ℕ) (batch : List ℕ) → batchVerdict n batch ≡ Refused c v → 7 ≤ c
-unfolding batchVerdict lengthVerdict
-batch-code n batch e = ⊎-elim
-    (λ f. omega (arith, unless-code (eqb (length batch % 2) 0 && leb (length batch) (2 * mostLinks)) 7 (length batch) f))
-    (λ k. ⊎-elim (ends-code n 0 (pairs batch)) (λ q. no-check (q .1)) (first-refused _ [] (k .1)))
-    (first-refused _ _ e)
-
 -- what follows the rules does not answer 6
-answer-code : {A : Type 0} (v : Verdict) (came : A) (value : ℕ) (done : A) → ((c p : ℕ) → v ≡ Refused c p → c ≢ 6) → answer v came value done .code ≢ 6
+answer-code : {A : Type 0} (v : Verdict) (came : A) (value : ℕ) (done : A) → Avoids 6 v → answer v came value done .code ≢ 6
 unfolding answer
 answer-code Sound came value done f e = omega arith
 answer-code (Refused c p) came value done f e = f c p refl e
@@ -72,35 +44,30 @@ answer-untouched (Refused c p) came value done o = refl
 
 module _ (up : List ℕ) (t : Tables) (n : sizeVerdict (length up) ≡ Sound) (e : treeVerdict up ≡ Sound) (z : checks (tableSizes up t) ≡ Sound) where
   exactly : {A : Type 0} (came : A) (value : ℕ) (done : A) (v : Verdict) (vs : List Verdict) → v ≡ checks (rulesVerdict up t ∷ vs)
-      → ((c p : ℕ) → checks vs ≡ Refused c p → c ≢ 6) → (answer v came value done .code ≡ 6) ↔ (¬ Left up t)
-  unfolding checks answer
+      → All (Avoids 6) vs → (answer v came value done .code ≡ 6) ↔ (¬ Left up t)
+  unfolding checks answer rulesVerdict
   exactly came value done v vs q f =
       let k = rules-exact up t e z in
       ⊎-elim
-      (λ r. let g : v ≡ checks vs = q ∙ rw r refl in (
-        λ i _. answer-code v came value done (λ c p j. f c p (sym g ∙ j)) i,
-        λ o. absurd (o (k .0 r)),
-      ))
-      (λ (p, r). let g : v ≡ Refused 6 p = q ∙ rw r refl in (
-        λ _ l. not-both r (k .1 l),
-        λ _. rw g refl,
-      ))
-      (rules-view up t)
+      (λ r. let g : v ≡ checks vs = q ∙ rw r refl in (λ i _. answer-code v came value done (rw g (checks-avoid vs f)) i, λ o. absurd (o (k .0 r))))
+      (λ (p, r). let g : v ≡ Refused 6 p = q ∙ rw r refl in (λ _ l. not-both r (k .1 l), λ _. rw g refl))
+      (refuse-view 6 (length up) (breaks up t))
+
+  -- Report comes to the rules
+  pub report-came : (o : Bytes) → length (o .machines) ≡ length up → length (o .links) ≡ length up → reportVerdict up t o ≡ checks (rulesVerdict up t ∷ [])
+  unfolding reportVerdict checks tableSizes
+  report-came o a b =
+      let c = all-sound (tableSizes up t) z in
+      rw (n, c .0, c .1 .0, c .1 .1 .0, eq-eqb (length (o .machines)) (length up) a, eq-eqb (length (o .links)) (length up) b, e) refl
 
   tables-exact : TablesExact up t
-  unfolding addOf addVerdict reportOf reportVerdict checks tableSizes rulesVerdict
+  unfolding addOf addVerdict reportOf checks rulesVerdict
   tables-exact = record {
     kept = rules-exact up t e z;
-    add-refused = λ batch. exactly _ _ _ (addVerdict up batch t) (batchVerdict (length up) batch ∷ []) (rw (n, z, e) refl)
-        (λ c p q. ⊎-elim (λ i. omega (arith, batch-code (length up) batch i)) (λ i. no-check (i .1)) (first-refused _ [] q));
-    report-refused = λ o a b. exactly _ _ _ (reportVerdict up t o) [] (report-came o a b) (λ c p q. no-check q);
-    place = λ v q. let r = refused-at 6 (length up) (breaks up t) q in (r .machine, r .fails, r .before);
+    add-refused = λ batch. exactly _ _ _ (addVerdict up batch t) (batchVerdict (length up) batch ∷ []) (rw (n, z, e) refl) (batch-avoids (length up) batch (omega arith), tt);
+    report-refused = λ o a b. exactly _ _ _ (reportVerdict up t o) [] (report-came o a b) tt;
+    place = λ v q. let r = refused-at 6 _ _ q in (r .machine, r .fails, r .before);
   }
-    where
-      report-came : (o : Bytes) → length (o .machines) ≡ length up → length (o .links) ≡ length up → reportVerdict up t o ≡ checks (rulesVerdict up t ∷ [])
-      report-came o a b =
-          let c = all-sound (tableSizes up t) z in
-          rw (n, c .0, c .1 .0, c .1 .1 .0, eq-eqb (length (o .machines)) (length up) a, eq-eqb (length (o .links)) (length up) b, e) refl
 
 pub demand1 : Demand1
 unfolding startOf addOf reportOf

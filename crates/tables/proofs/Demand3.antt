@@ -2,8 +2,9 @@
 -- tree. Such pairs and choke machines are carried by the renumbering; two paths are the theorem about networks with no choke.
 use mathlib.Core.Path.{_≡_, refl, sym, ap, _∙_, subst}
 use mathlib.Core.List.{List}
-use mathlib.Core.Logic.{_≢_, inl, inr, ⊎-elim, _↔_}
-use Prim.Native.Nat.{ℕ, zero, suc, _<_, _≤_}
+use mathlib.Core.Logic.{_≢_, inl, inr, ⊎-elim, dite, _↔_, Iff·symm, Iff·trans}
+use Prim.Native.Nat.{ℕ, _<_}
+use native.Mathlib.Decide.{ℕ-discrete}
 use native.Mathlib.Omega.{arith}
 use lib.ListN.{length}
 use Rattle.plain.specs.Table.{at}
@@ -11,7 +12,7 @@ use Rattle.graph.specs.Walk.{Walk}
 use Rattle.graph.specs.Choke.{Choke}
 use Rattle.graph.specs.Cable.{Cables, Linked, Within, between, less, ChokePair}
 use Rattle.graph.proofs.Walks.{one-step, map}
-use Rattle.graph.proofs.Cables.{flip, linked-append, linked-between, between-append, less-between, less-keeps, pair-turn, Same}
+use Rattle.graph.proofs.Cables.{flip, linked-append, linked-between, between-append, less-between, less-keeps, pair-turn, Same, same-linked}
 use Rattle.graph.proofs.Renumbered.{cables-links, machines-carried, pairs-carried}
 use Rattle.graph.proofs.TwoPaths.{two-paths}
 use Rattle.rings.specs.Tree.{Uplink}
@@ -26,27 +27,23 @@ use Rattle.tables.specs.Demand1.{SoundTree}
 use Rattle.tables.specs.Demand2.{Reported}
 use Rattle.tables.specs.Demand3.{Renumbered, Carried, NamedEnds, Demand3}
 use Rattle.tables.proofs.Sound.{sound-tree, rooted}
-use Rattle.tables.proofs.Histories.{links-good}
-use Rattle.tables.proofs.Cabling.{uplink-linked, cables-within}
+use Rattle.tables.proofs.Cabling.{all-uplinks, uplink-linked, cables-within}
 
 module _ {up : List ℕ} (s : SoundTree up) (l : Cables) where
   abbrev E : Cables
   E = cables up l
 
   uplink-there : {x y : ℕ} → Uplink (treeOf up) x y → Linked E x y
-  uplink-there {x} {y} r = linked-append (uplinks up (length up)) l x y .1 (inl (uplink-linked up x y .1 (inl r)))
+  uplink-there {x} {y} r = linked-append (all-uplinks up) l x y .1 (inl (uplink-linked up x y .1 (inl r)))
 
   choke-pair : {v : ℕ} → ChokeUplink up l v → ChokePair E v (at up v)
-  choke-pair {v} c = record { single = go (between E v (at up v)) refl; parted = c .parted }
-    where
-      some : 1 ≤ between E v (at up v)
-      some = linked-between E v (at up v) .0 (uplink-there (uplinked (c .machine) (c .other)))
-
-      go : (k : ℕ) → between E v (at up v) ≡ k → between E v (at up v) ≡ 1
-      go zero e = omega (arith, some)
-      go (suc zero) e = e
-      go (suc (suc k)) e = absurd (c .parted (one-step (linked-between (less E v (at up v)) v (at up v) .1
-          (omega (arith, less-between {k = suc k} E v (at up v) e)))))
+  choke-pair {v} c =
+      let some = linked-between E v (at up v) .0 (uplink-there (uplinked (c .machine) (c .other))) in
+      let rest = less-between E v (at up v) some in record {
+        single = dite (ℕ-discrete (between E v (at up v)) 1) (λ e. e)
+            (λ o. absurd (c .parted (one-step (linked-between (less E v (at up v)) v (at up v) .1 (omega arith)))));
+        parted = c .parted;
+      }
 
   -- a lone cross link leaves the tree, which joins its ends
   cross-joined : {a b : ℕ} → a < length up → b < length up → between E a b ≡ 1 → Linked l a b → Walk (Linked (less E a b)) a b
@@ -54,10 +51,8 @@ module _ {up : List ℕ} (s : SoundTree up) (l : Cables) where
     where
       apart : {x y : ℕ} → Uplink (treeOf up) x y → ¬ Same a b x y
       apart {x} {y} r q =
-          let A = uplinks up (length up) in
-          let u : Linked A a b = ⊎-elim (λ f. rw (f .0, f .1) at (uplink-linked up x y .1 (inl r)))
-          (λ f. flip A b a (rw (f .0, f .1) at (uplink-linked up x y .1 (inl r)))) q in
-          omega (arith, between-append A l a b, linked-between A a b .0 u, linked-between l a b .0 k)
+          let A = all-uplinks up in
+          omega (arith, between-append A l a b, linked-between A a b .0 (same-linked A q (uplink-linked up x y .1 (inl r))), linked-between l a b .0 k)
 
       step : (x y : ℕ) → Cabled (treeOf up) (λ x y. ⊥) x y → Linked (less E a b) x y
       step x y (rising r) = less-keeps E a b x y (apart r) (uplink-there r)
@@ -78,7 +73,7 @@ module _ {up : List ℕ} (s : SoundTree up) (l : Cables) where
         (λ r. record { lower = b; choke = choke-uplink r (pair-turn E a b c); ends = inr (refl, sym (r .to)) })
         (uplink-linked up a b .0 u))
         (λ k. absurd (c .parted (cross-joined i j (c .single) k)))
-        (linked-append (uplinks up (length up)) l a b .0 (linked-between E a b .1 (omega (arith, c .single)))),
+        (linked-append (all-uplinks up) l a b .0 (linked-between E a b .1 (omega (arith, c .single)))),
   )
 
   -- the ends of an uplink differ
@@ -96,10 +91,10 @@ module _ {up : List ℕ} {h : History} {up′ : List ℕ} {h′ : History} {f : 
   two = sound-tree up′ (r .after .tree)
 
   within : Within (length up) (cables up (links h))
-  within = cables-within one (links h) (links-good (length up) h (r .before .batches))
+  within = cables-within one h (r .before .batches)
 
   within′ : Within (length up) (cables up′ (links h′))
-  within′ = rw (r .same-size) (cables-within two (links h′) (links-good (length up′) h′ (r .after .batches)))
+  within′ = rw (r .same-size) (cables-within two h′ (r .after .batches))
 
   into : (v : ℕ) → v < length up → f v < length up′
   into v i = rw (r .same-size) at (r .one-to-one .into v i)
@@ -107,12 +102,11 @@ module _ {up : List ℕ} {h : History} {up′ : List ℕ} {h′ : History} {f : 
   carried : Carried up h up′ h′ f
   carried = record {
     machines = λ w i. subst (λ n. ChokeMachine up (links h) w ↔ Choke n (Linked (cables up′ (links h′))) (f w)) (r .same-size)
-        (machines-carried (length up) f (cables up (links h)) (cables up′ (links h′)) within within′ (r .one-to-one)
-        (cables-links (length up) f (cables up (links h)) (cables up′ (links h′)) (r .keeps)) w i);
+        (machines-carried _ f _ _ within within′ (r .one-to-one) (cables-links _ f _ _ (r .keeps)) w i);
     uplinks = λ a b i j.
         let p = ends-pair one (links h) a b i j in
         let q = ends-pair two (links h′) (f a) (f b) (into a i) (into b j) in
-        let go = pairs-carried (length up) f (cables up (links h)) (cables up′ (links h′)) within within′ (r .one-to-one) (r .keeps) a b i j in (
+        let go = pairs-carried _ f _ _ within within′ (r .one-to-one) (r .keeps) a b i j in (
           λ c. q .1 (go (ends-apart one (links h) c) .0 (p .0 c)),
           λ c. p .1 (go (λ e. ends-apart two (links h′) c (ap f e)) .1 (q .0 c)),
         );
@@ -128,20 +122,10 @@ named-ends q a b = (
 pub demand3 : Demand3
 demand3 = record {
   carried = λ up h up′ h′ f. carried;
-  reports = λ up h up′ h′ f n r r′ p q.
-      let c = carried n in
-      record {
-        machines = λ w i.
-            let j = into n w i in (
-              λ o. q .machines (f w) j .1 (c .machines w i .0 (p .machines w i .0 o)),
-              λ o. p .machines w i .1 (c .machines w i .1 (q .machines (f w) j .0 o)),
-            );
-        uplinks = λ a b i j. (
-          λ k. named-ends q (f a) (f b) .1 (c .uplinks a b i j .0 (named-ends p a b .0 k)),
-          λ k. named-ends p a b .1 (c .uplinks a b i j .1 (named-ends q (f a) (f b) .0 k)),
-        );
-      };
+  reports = λ up h up′ h′ f n r r′ p q. let c = carried n in record {
+    machines = λ w i. Iff·trans (p .machines w i) (Iff·trans (c .machines w i) (Iff·symm (q .machines (f w) (into n w i))));
+    uplinks = λ a b i j. Iff·trans (named-ends p a b) (Iff·trans (c .uplinks a b i j) (Iff·symm (named-ends q (f a) (f b))));
+  };
   two-paths = λ up h l m r p z.
-      let g = cables-within (sound-tree up (l .tree)) (links h) (links-good (length up) h (l .batches)) in
-      two-paths (length up) (cables up (links h)) m g .0 (λ w i c. p .machines w i .1 c (z w i));
+      two-paths (length up) (cables up (links h)) m (cables-within (sound-tree up (l .tree)) h (l .batches)) .0 (λ w i c. p .machines w i .1 c (z w i));
 }

@@ -3,24 +3,25 @@
 use mathlib.Core.Path.{_≡_, refl}
 use mathlib.Core.Bool.{_&&_, not}
 use mathlib.Core.List.{List}
-use mathlib.Core.Logic.{_≢_, _⊎_, inl, inr, ⊎-elim, _↔_}
+use mathlib.Core.Logic.{_≢_, _⊎_, inl, inr, ⊎-elim, ⊎-map, _↔_}
 use Prim.Native.Nat.{ℕ, _<_, _≤_}
 use native.Mathlib.Omega.{arith}
 use lib.ListN.{length}
 use lib.Dec.{eqb}
 use Rattle.plain.proofs.Says.{Says, by-cases, says-eq, says-not, says-and, says-or, refuted}
 use Rattle.plain.specs.Table.{at}
-use Rattle.rings.proofs.Lowest.{turn, leaves-on, on-leaves, deep-leaves, not-over}
-use Rattle.rings.specs.Tree.{Under}
+use Rattle.graph.proofs.Walks.{join}
+use Rattle.rings.proofs.Lowest.{turn, leaves-on, on-leaves, deep-leaves}
+use Rattle.rings.specs.Tree.{Tree, Under}
 use Rattle.tables.specs.Link.{meet, ring, due}
 use Rattle.tables.specs.Tree.{treeOf}
 use Rattle.tables.specs.Demand1.{SoundTree}
 use Rattle.tables.proofs.Sound.{rooted}
-use Rattle.tables.proofs.Lines.{meets, says-over}
+use Rattle.tables.proofs.Lines.{up-over, meets, says-over}
 
 -- The link leads from under x to what is not under y.
-abbrev pub Leaves : List ℕ → ℕ → ℕ → ℕ → ℕ → Type 0
-Leaves up a b x y = (Under (treeOf up) x a × ¬ Under (treeOf up) y b) ⊎ (Under (treeOf up) x b × ¬ Under (treeOf up) y a)
+abbrev pub Leaves : Tree → ℕ → ℕ → ℕ → ℕ → Type 0
+Leaves T a b x y = (Under T x a × ¬ Under T y b) ⊎ (Under T x b × ¬ Under T y a)
 
 -- x is on the ring and is not w.
 abbrev pub On : List ℕ → ℕ → ℕ → ℕ → Type 0
@@ -46,21 +47,21 @@ module _ {up : List ℕ} (s : SoundTree up) {a b : ℕ} (h : a < length up) (k :
       (λ f. rw f (deep (t .gives e) (refuted (says-eq (at up x) (meet up a b)) f)))))
       (λ e. rw e (none (refuted t e)))
 
-  pub on-is : (x : ℕ) → On up a b x ↔ Leaves up a b x x
+  pub on-is : (x : ℕ) → On up a b x ↔ Leaves (treeOf up) a b x x
   on-is x =
       let m = meets s h k in
       let n = turn m in (
-        λ o. ⊎-elim (λ v. inl (v, on-leaves (rooted s) m (o .0 .0) v (o .1))) (λ v. inr (v, on-leaves (rooted s) n (o .0 .0) v (o .1))) (o .0 .1),
+        λ ((u, i), o). ⊎-map (λ v. (v, on-leaves (rooted s) m u v o)) (λ v. (v, on-leaves (rooted s) n u v o)) i,
         ⊎-elim (λ q. let (u, o) = leaves-on m (q .0) (q .1) in ((u, inl (q .0)), o)) (λ q. let (u, o) = leaves-on n (q .0) (q .1) in ((u, inr (q .0)), o)),
       )
 
-  deep-is : (x : ℕ) → (On up a b x × (at up x ≢ meet up a b)) ↔ Leaves up a b x (at up x)
-  deep-is x =
+  deep-is : (x : ℕ) → x < length up → (On up a b x × (at up x ≢ meet up a b)) ↔ Leaves (treeOf up) a b x (at up x)
+  deep-is x l =
       let m = meets s h k in
       let n = turn m in (
-        λ p. let o = p .0 in ⊎-elim (λ v. inl (v, deep-leaves (rooted s) m h (o .0 .0) v (o .1) (p .1))) (λ v. inr (v, deep-leaves (rooted s) n k (o .0 .0) v (o .1) (p .1))) (o .0 .1),
-        ⊎-elim (λ q. (on-is x .1 (inl (q .0, not-over (rooted s) (s .hub-self) h k (q .0) (q .1))), λ e. q .1 (rw e (m .right))))
-            (λ q. (on-is x .1 (inr (q .0, not-over (rooted s) (s .hub-self) k h (q .0) (q .1))), λ e. q .1 (rw e (m .left)))),
+        λ (((u, i), o), e). ⊎-map (λ v. (v, deep-leaves (rooted s) m h u v o e)) (λ v. (v, deep-leaves (rooted s) n k u v o e)) i,
+        ⊎-elim (λ q. (on-is x .1 (inl (q .0, λ u. q .1 (join u (up-over s x l)))), λ e. q .1 (rw e (m .right))))
+            (λ q. (on-is x .1 (inr (q .0, λ u. q .1 (join u (up-over s x l)))), λ e. q .1 (rw e (m .left)))),
       )
 
   pub due-small : (x : ℕ) → x < length up → due up a b x ≤ 2
@@ -71,18 +72,18 @@ module _ {up : List ℕ} (s : SoundTree up) {a b : ℕ} (h : a < length up) (k :
       go (high o e) = omega arith
       go (deep o e) = omega arith
 
-  pub due-rings : (x : ℕ) → x < length up → (1 ≤ due up a b x) ↔ Leaves up a b x x
+  pub due-rings : (x : ℕ) → x < length up → (1 ≤ due up a b x) ↔ Leaves (treeOf up) a b x x
   due-rings x l = go (due-is x l)
     where
-      go : {d : ℕ} → Due up a b x d → (1 ≤ d) ↔ Leaves up a b x x
+      go : {d : ℕ} → Due up a b x d → (1 ≤ d) ↔ Leaves (treeOf up) a b x x
       go (none q) = (λ i. absurd (omega arith), λ p. absurd (q (on-is x .1 p)))
       go (high o e) = (λ _. on-is x .0 o, λ _. omega arith)
       go (deep o e) = (λ _. on-is x .0 o, λ _. omega arith)
 
-  pub due-carries : (x : ℕ) → x < length up → (due up a b x ≡ 2) ↔ Leaves up a b x (at up x)
+  pub due-carries : (x : ℕ) → x < length up → (due up a b x ≡ 2) ↔ Leaves (treeOf up) a b x (at up x)
   due-carries x l = go (due-is x l)
     where
-      go : {d : ℕ} → Due up a b x d → (d ≡ 2) ↔ Leaves up a b x (at up x)
-      go (none q) = (λ i. absurd (omega arith), λ p. absurd (q (deep-is x .1 p .0)))
-      go (high o e) = (λ i. absurd (omega arith), λ p. absurd (deep-is x .1 p .1 e))
-      go (deep o e) = (λ _. deep-is x .0 (o, e), λ _. refl)
+      go : {d : ℕ} → Due up a b x d → (d ≡ 2) ↔ Leaves (treeOf up) a b x (at up x)
+      go (none q) = (λ i. absurd (omega arith), λ p. absurd (q (deep-is x l .1 p .0)))
+      go (high o e) = (λ i. absurd (omega arith), λ p. absurd (deep-is x l .1 p .1 e))
+      go (deep o e) = (λ _. deep-is x l .0 (o, e), λ _. refl)

@@ -8,7 +8,7 @@ use native.Mathlib.Decide.{ℕ-discrete}
 use native.Mathlib.Omega.{arith}
 use lib.ListN.{length}
 use lib.Dec.{eqb}
-use borrow.Author.Tests.{eq-eqb, ne-eqb}
+use borrow.Author.Tests.{eq-eqb, ne-eqb, not-false}
 use Rattle.plain.proofs.Says.{says-if, Says, says-map, says-eq, says-le, says-lt, says-not, says-and, says-unless}
 use Rattle.plain.proofs.Tabulate.{at-tabulate}
 use Rattle.plain.specs.Search.{least}
@@ -38,14 +38,13 @@ pub record Kept (up : List ℕ) (t : Tables) (v : ℕ) : Type 0 where
   pub partner : v ≢ hub up → at (t .group) v ≢ v → (1 ≤ at (t .mark) (at (t .group) v)) × (1 ≤ at (t .mark) v)
   pub carried : at (t .mark) v ≡ 2 → (at up v ≢ hub up) × (1 ≤ at (t .mark) (at up v))
 
-pub says-keeps : (up : List ℕ) (t : Tables) (v : ℕ) → Says (keeps up t v) (Kept up t v)
+says-keeps : (up : List ℕ) (t : Tables) (v : ℕ) → Says (keeps up t v) (Kept up t v)
 unfolding keeps depthRule hubRule markRule groupRule partnerRule carriedRule
 says-keeps up t v =
     let g = at (t .group) v in
     let m = at (t .mark) v in
     let r = says-eq v (hub up) in
-    says-map (λ k. record { depth = k .0; top = k .1 .0; small = k .1 .1 .0; group = k .1 .1 .1 .0; partner = k .1 .1 .1 .1 .0; carried = k .1 .1 .1 .1 .1 })
-    (λ k. (k .depth, (k .top, (k .small, (k .group, (k .partner, k .carried))))))
+    says-map (λ k. search) (λ k. search)
     (says-and (says-eq (at (t .depth) v) (cond (eqb v (hub up)) 0 (suc (at (t .depth) (at up v)))))
     (says-and (says-if r (says-and (says-eq m 0) (says-eq g v)))
     (says-and (says-le m 2)
@@ -95,4 +94,4 @@ kept-sound up t f = refuse-none 6 (length up) (λ v. not (keeps up t v)) (λ v h
 
 pub sound-kept : (up : List ℕ) (t : Tables) → rulesVerdict up t ≡ Sound → (v : ℕ) → v < length up → Kept up t v
 unfolding rulesVerdict breaks
-sound-kept up t e v h = says-keeps up t v .gives (borrow.Author.Tests.not-false (keeps up t v) (none-refused 6 (length up) (λ v. not (keeps up t v)) e v h))
+sound-kept up t e v h = says-keeps up t v .gives (not-false (keeps up t v) (none-refused 6 (length up) (λ v. not (keeps up t v)) e v h))

@@ -16,7 +16,7 @@ use Rattle.tables.proofs.Lines.{says-over}
 use Rattle.tables.proofs.Dues.{on-is}
 use Rattle.tables.proofs.Rise.{after-marks}
 use Rattle.tables.proofs.Told.{told-map, told-one, group-name, group-law}
-use Rattle.tables.proofs.Histories.{network, links-good, leaves-after, told}
+use Rattle.tables.proofs.Histories.{lived-network, leaves-after, told}
 
 pub ring-lines : RingLines
 unfolding ring
@@ -47,7 +47,7 @@ tables-tell up h l =
       marks = fresh-marks up h;
       ringed = k .marked .ringed;
       carried = k .marked .carried;
-      grouped = group-law (network s (links h) (links-good (length up) h (l .batches))) n;
+      grouped = group-law (lived-network s h (l .batches)) n;
       member = λ x i. sym (group-name n (n .own x i));
       least = λ x y i j e. rw e (n .least y j);
     }

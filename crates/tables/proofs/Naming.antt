@@ -2,8 +2,8 @@
 -- Every other name stays, so names agree across each join, are of the group, and are its least.
 use mathlib.Core.Path.{_≡_, refl, sym, ap, _∙_}
 use mathlib.Core.Bool.{_||_}
-use mathlib.Core.List.{List, _∷_, List·Memᴰ, List·Memᴰ·head}
-use mathlib.Core.Logic.{_≢_, _⊎_, inl, inr, ⊎-elim, dite}
+use mathlib.Core.List.{List, _∷_}
+use mathlib.Core.Logic.{_≢_, _⊎_, inl, inr, ⊎-elim, dite, Ne·symm}
 use Prim.Native.Nat.{ℕ, _<_, _≤_, max, min}
 use native.Mathlib.Decide.{ℕ-discrete, decLe}
 use native.Mathlib.Omega.{arith}
@@ -13,7 +13,9 @@ use borrow.Author.Tests.{eq-eqb, ne-eqb}
 use Rattle.plain.proofs.Says.{by-cases, says-eq, says-or, refuted}
 use Rattle.plain.specs.Table.{at}
 use Rattle.graph.proofs.Walks.{one-step, join}
-use Rattle.graph.specs.Cable.{Linked}
+use Rattle.graph.specs.Cable.{Cables, Linked}
+use Rattle.graph.proofs.Members.{here}
+use Rattle.graph.proofs.Cables.{Same, linked-cons, linked-more}
 use Rattle.rings.proofs.Groups.{mirror}
 use Rattle.rings.proofs.Under.{rest, antisym, one-child, no-return}
 use Rattle.rings.specs.Group.{Joins, SameGroup}
@@ -27,23 +29,19 @@ use Rattle.tables.specs.Demand1.{SoundTree}
 use Rattle.tables.proofs.Sound.{rooted}
 use Rattle.tables.proofs.Told.{Told, Named, group-up}
 use Rattle.tables.proofs.Lines.{meets, below-is}
-use Rattle.rings.proofs.More.{group-map}
+use Rattle.rings.proofs.More.{joins-by, group-map}
 use Rattle.plain.proofs.Tabulate.{at-map}
-use Rattle.tables.proofs.Marking.{Either, listed-cons, listed-more, marked-more}
+use Rattle.tables.proofs.Marking.{marked-more}
 
--- Two children of one machine, one over each end of the link: that machine is w, and the children are those on the ring.
-module _ {up : List ℕ} (s : SoundTree up) {a b w : ℕ} (h : a < length up) (m : Lowest (treeOf up) a b w)
-    {v x y : ℕ} (r : Uplink (treeOf up) x v) (t : Uplink (treeOf up) y v) (o : x ≢ y) (p : Under (treeOf up) x a) (q : Under (treeOf up) y b) where
-  twin-meet : v ≡ w
-  twin-meet =
-      let (u, ne) = leaves-on m p (λ k. o (one-child (rooted s) r t k q)) in
-      antisym (rooted s) (rest r ne u) (m .lowest v (join p (one-step r)) (join q (one-step t)))
-
-  twin-end : a ≢ w
-  twin-end e = no-return (rooted s) r (rw (e ∙ sym twin-meet) at p)
-
-  twin-child : x ≡ below up w a
-  twin-child = let (i, u) = below-is s h (m .left) twin-end in one-child (rooted s) (rw twin-meet at r) i p u
+-- Two children of one machine, x over a and y over b: that machine is w, a is not, and x is the child of w on the line of a.
+twin : {up : List ℕ} (s : SoundTree up) {a b w v x y : ℕ} → a < length up → Lowest (treeOf up) a b w
+    → Uplink (treeOf up) x v → Uplink (treeOf up) y v → x ≢ y → Under (treeOf up) x a → Under (treeOf up) y b → (a ≢ w) × (x ≡ below up w a)
+twin s {a} {w = w} {v} h m r t o p q =
+    let (u, ne) = leaves-on m p (λ k. o (one-child (rooted s) r t k q)) in
+    let e : v ≡ w = antisym (rooted s) (rest r ne u) (m .lowest v (join p (one-step r)) (join q (one-step t))) in
+    let oa : a ≢ w = λ f. no-return (rooted s) r (rw (f ∙ sym e) at p) in
+    let (i, z) = below-is s h (m .left) oa in
+    (oa, one-child (rooted s) (rw e at r) i p z)
 
 -- The name of a group after hi is renamed to lo.
 data Name (hi lo y : ℕ) : ℕ → Type 0 where
@@ -53,22 +51,30 @@ data Name (hi lo y : ℕ) : ℕ → Type 0 where
 name : (hi lo y : ℕ) → Name hi lo y (renamed hi lo y)
 name hi lo y = dite (ℕ-discrete y hi) (λ e. rw (eq-eqb y hi e) (new e)) (λ o. rw (ne-eqb y hi o) (old o))
 
-module _ {up : List ℕ} (s : SoundTree up) {a b : ℕ} (h : a < length up) (l : b < length up) {k : List (ℕ × ℕ)} {g : List ℕ}
+module _ {up : List ℕ} (s : SoundTree up) {a b : ℕ} (h : a < length up) (l : b < length up) {k : Cables} {g : List ℕ}
     (N : Network (treeOf up) (Linked ((a, b) ∷ k))) (q : Named up (Linked k) g) where
+  twins : {v x y : ℕ} → Uplink (treeOf up) x v → Uplink (treeOf up) y v → x ≢ y → Under (treeOf up) x a → Under (treeOf up) y b
+      → ((a ≢ meet up a b) × (x ≡ below up (meet up a b) a)) × ((b ≢ meet up a b) × (y ≡ below up (meet up a b) b))
+  twins r t o u v = (twin s h (meets s h l) r t o u v, twin s l (turn (meets s h l)) t r (Ne·symm o) v u)
+
+  -- what the link itself joins are the two children of w on the ring
+  fork : {w x y : ℕ} (j : Joins (treeOf up) (Linked ((a, b) ∷ k)) w x y) → Same a b (j .one) (j .two)
+      → (a ≢ meet up a b) × (b ≢ meet up a b) × Same (below up (meet up a b) a) (below up (meet up a b) b) x y
+  fork j (inl f) = let ((oa, e), (ob, i)) = twins (j .left) (j .right) (j .apart) (rw (f .0) at (j .below-left)) (rw (f .1) at (j .below-right)) in (oa, ob, inl (e, i))
+  fork j (inr f) = let ((oa, e), (ob, i)) = twins (j .right) (j .left) (Ne·symm (j .apart)) (rw (f .1) at (j .below-right)) (rw (f .0) at (j .below-left)) in (oa, ob, inr (i, e))
+
+  -- a name is of the new group too
+  new-own : (x : ℕ) → x < length up → SameGroup (treeOf up) (Linked ((a, b) ∷ k)) (at up x) x (at g x)
+  new-own x i = group-map linked-more (q .own x i)
+
   -- where one end is w nothing is joined
   straight : (a ≡ meet up a b) ⊎ (b ≡ meet up a b) → Named up (Linked ((a, b) ∷ k)) g
   straight e = record {
     size = q .size;
-    agree = λ j. ⊎-elim (λ f. absurd (no-twins j f)) (λ f. q .agree (record { left = j .left; right = j .right; apart = j .apart; one = j .one; two = j .two; link = f; below-left = j .below-left; below-right = j .below-right })) (listed-cons (j .link));
-    own = λ x i. group-map listed-more (q .own x i);
+    agree = λ j. ⊎-elim (λ f. let (oa, ob, _) = fork j f in absurd (⊎-elim oa ob e)) (λ f. q .agree (joins-by j f)) (linked-cons (j .link));
+    own = new-own;
     least = q .least;
   }
-    where
-      no-twins : {w x y : ℕ} (j : Joins (treeOf up) (Linked ((a, b) ∷ k)) w x y) → ¬ Either a b (j .one) (j .two)
-      no-twins j (inl f) = let m = meets s h l in let u = rw (f .0) at (j .below-left) in let v = rw (f .1) at (j .below-right) in
-          ⊎-elim (twin-end s h m (j .left) (j .right) (j .apart) u v) (twin-end s l (turn m) (j .right) (j .left) (λ i. j .apart (sym i)) v u) e
-      no-twins j (inr f) = let m = meets s h l in let u = rw (f .0) at (j .below-left) in let v = rw (f .1) at (j .below-right) in
-          ⊎-elim (twin-end s h m (j .right) (j .left) (λ i. j .apart (sym i)) v u) (twin-end s l (turn m) (j .left) (j .right) (j .apart) u v) e
 
   module _ (oa : a ≢ meet up a b) (ob : b ≢ meet up a b) where
     abbrev c : ℕ
@@ -90,19 +96,9 @@ module _ {up : List ℕ} (s : SoundTree up) {a b : ℕ} (h : a < length up) (l :
     d-is = below-is s l (meets s h l .right) ob
 
     c-d : Joins (treeOf up) (Linked ((a, b) ∷ k)) (meet up a b) c d
-    c-d = record {
-      left = c-is .0;
-      right = d-is .0;
-      apart = λ e. no-return (rooted s) (c-is .0) (meets s h l .lowest c (c-is .1) (rw e (d-is .1)));
-      one = a;
-      two = b;
-      link = inl (List·Memᴰ·head refl);
-      below-left = c-is .1;
-      below-right = d-is .1;
-    }
-
-    new-own : (x : ℕ) → x < length up → SameGroup (treeOf up) (Linked ((a, b) ∷ k)) (at up x) x (at g x)
-    new-own x i = group-map listed-more (q .own x i)
+    c-d =
+        let apart : c ≢ d = λ e. no-return (rooted s) (c-is .0) (meets s h l .lowest c (c-is .1) (rw e (d-is .1))) in
+        record { left = c-is .0; right = d-is .0; apart = apart; one = a; two = b; link = inl (here refl); below-left = c-is .1; below-right = d-is .1 }
 
     names-meet : SameGroup (treeOf up) (Linked ((a, b) ∷ k)) (meet up a b) (at g c) (at g d)
     names-meet = join (mirror N (rw (c-is .0 .to) at (new-own c (c-is .0 .low)))) (join (one-step c-d) (rw (d-is .0 .to) at (new-own d (d-is .0 .low))))
@@ -125,32 +121,29 @@ module _ {up : List ℕ} (s : SoundTree up) {a b : ℕ} (h : a < length up) (l :
     least-of {x} i (old o) = q .least x i
     least-of {x} i (new e) = omega (arith, q .least x i)
 
-    lo-of : {y r : ℕ} → (y ≡ at g c) ⊎ (y ≡ at g d) → Name hi lo y r → r ≡ lo
-    lo-of (inl e) (old o) = omega arith
-    lo-of (inr e) (old o) = omega arith
-    lo-of (inl e) (new f) = refl
-    lo-of (inr e) (new f) = refl
-
     each : (x : ℕ) → x < length up → at (joined c d g) x ≡ renamed hi lo (at g x)
     unfolding joined
     each x i = at-map (renamed hi lo) g x (rw (q .size) i)
 
-    to-lo : (x : ℕ) → x < length up → (x ≡ c) ⊎ (x ≡ d) → at (joined c d g) x ≡ lo
-    to-lo x i e = each x i ∙ lo-of (⊎-elim (λ f. inl (ap (at g) f)) (λ f. inr (ap (at g) f)) e) (name hi lo (at g x))
+    lo-of : {y r : ℕ} → (y ≢ hi → y ≡ lo) → Name hi lo y r → r ≡ lo
+    lo-of f (old o) = f o
+    lo-of f (new e) = refl
 
-    twins : {w x y : ℕ} (j : Joins (treeOf up) (Linked ((a, b) ∷ k)) w x y) → Either a b (j .one) (j .two) → at (joined c d g) x ≡ at (joined c d g) y
-    twins {x = x} {y} j (inl f) = let m = meets s h l in let u = rw (f .0) at (j .below-left) in let v = rw (f .1) at (j .below-right) in
-        to-lo x (j .left .low) (inl (twin-child s h m (j .left) (j .right) (j .apart) u v))
-        ∙ sym (to-lo y (j .right .low) (inr (twin-child s l (turn m) (j .right) (j .left) (λ i. j .apart (sym i)) v u)))
-    twins {x = x} {y} j (inr f) = let m = meets s h l in let u = rw (f .0) at (j .below-left) in let v = rw (f .1) at (j .below-right) in
-        to-lo x (j .left .low) (inr (twin-child s l (turn m) (j .left) (j .right) (j .apart) u v))
-        ∙ sym (to-lo y (j .right .low) (inl (twin-child s h m (j .right) (j .left) (λ i. j .apart (sym i)) v u)))
+    one-name : at (joined c d g) c ≡ at (joined c d g) d
+    one-name = each c (c-is .0 .low) ∙ lo-of (λ o. omega arith) (name hi lo (at g c))
+        ∙ sym (each d (d-is .0 .low) ∙ lo-of (λ o. omega arith) (name hi lo (at g d)))
+
+    forked-name : {x y : ℕ} → Same c d x y → at (joined c d g) x ≡ at (joined c d g) y
+    forked-name (inl e) = rw (e .0, e .1) one-name
+    forked-name (inr e) = rw (e .0, e .1) (sym one-name)
 
     forked : Named up (Linked ((a, b) ∷ k)) (joined c d g)
     unfolding joined
     forked = record {
       size = length-map g (renamed hi lo) ∙ q .size;
-      agree = λ {w} {x} {y} j. ⊎-elim (twins j) (λ f. each x (j .left .low) ∙ ap (renamed hi lo) (q .agree (record { left = j .left; right = j .right; apart = j .apart; one = j .one; two = j .two; link = f; below-left = j .below-left; below-right = j .below-right })) ∙ sym (each y (j .right .low))) (listed-cons (j .link));
+      agree = λ {w} {x} {y} j. ⊎-elim (λ f. forked-name (fork j f .2))
+          (λ f. each x (j .left .low) ∙ ap (renamed hi lo) (q .agree (joins-by j f)) ∙ sym (each y (j .right .low)))
+          (linked-cons (j .link));
       own = λ x i. rw (each x i) (own-of i (name hi lo (at g x)));
       least = λ x i. rw (each x i) (least-of i (name hi lo (at g x)));
     }
@@ -164,7 +157,7 @@ module _ {up : List ℕ} (s : SoundTree up) {a b : ℕ} (h : a < length up) (l :
       (λ e. rw e (forked (λ f. refuted t e (inl f)) (λ f. refuted t e (inr f))))
 
 -- One link keeps what the tables tell, of one link more.
-pub told-more : {up : List ℕ} (s : SoundTree up) {a b : ℕ} → a < length up → b < length up → {k : List (ℕ × ℕ)} {t : Tables}
+pub told-more : {up : List ℕ} (s : SoundTree up) {a b : ℕ} → a < length up → b < length up → {k : Cables} {t : Tables}
     → Network (treeOf up) (Linked ((a, b) ∷ k)) → Told up (Linked k) t → Told up (Linked ((a, b) ∷ k)) (linked up a b t)
 unfolding linked
 told-more s h l N q = record { depths = q .depths; marked = marked-more s h l (q .marked); named = named-more s h l N (q .named) }

@@ -14,17 +14,23 @@ use Rattle.tables.specs.Link.{due, raised, linked}
 use Rattle.tables.specs.Batch.{after, rise}
 use Rattle.tables.specs.Laws.{greatest}
 
+pub raised-length : (up : List ℕ) (a b : ℕ) (m : List ℕ) → length (raised up a b m) ≡ length up
+unfolding raised
+raised-length up a b m = length-tabulate (length up) _
+
+pub raised-at : (up : List ℕ) (a b : ℕ) (m : List ℕ) (x : ℕ) → x < length up → at (raised up a b m) x ≡ max (at m x) (due up a b x)
+unfolding raised
+raised-at up a b m = at-tabulate (length up) (λ x. max (at m x) (due up a b x))
+
 pub after-marks : (up : List ℕ) (l : Cables) (t : Tables) (x : ℕ) → x < length up → at (after up l t .mark) x ≡ max (at (t .mark) x) (greatest up l x)
-unfolding after linked raised greatest
+unfolding after linked greatest
 after-marks up [] t x h = omega arith
-after-marks up (p ∷ l) t x h =
-    omega (arith, after-marks up l (linked up (p .0) (p .1) t) x h, at-tabulate (length up) (λ x. max (at (t .mark) x) (due up (p .0) (p .1) x)) x h)
+after-marks up (p ∷ l) t x h = omega (arith, after-marks up l (linked up (p .0) (p .1) t) x h, raised-at up (p .0) (p .1) (t .mark) x h)
 
 after-length : (up : List ℕ) (l : Cables) (t : Tables) → length (t .mark) ≡ length up → length (after up l t .mark) ≡ length up
-unfolding after linked raised
+unfolding after linked
 after-length up [] t e = e
-after-length up (p ∷ l) t e =
-    after-length up l (linked up (p .0) (p .1) t) (length-tabulate (length up) (λ x. max (at (t .mark) x) (due up (p .0) (p .1) x)))
+after-length up (p ∷ l) t e = after-length up l (linked up (p .0) (p .1) t) (raised-length up (p .0) (p .1) (t .mark))
 
 pub rise-is : (up : List ℕ) (l : Cables) (t : Tables) → length (t .mark) ≡ length up
     → rise t (after up l t) + total (t .mark) ≡ total (after up l t .mark)

@@ -1,8 +1,8 @@
 -- A tree that is not refused is sound, and the theory of rings speaks of it: its depths are ranks that fall by one with each uplink.
-use mathlib.Core.Path.{_≡_, refl, sym, ap}
-use mathlib.Core.Bool.{Bool, true, false, _&&_}
-use mathlib.Core.List.{List, []}
-use mathlib.Core.Logic.{_≢_, ⊎-elim, dite}
+use mathlib.Core.Path.{_≡_, refl, sym, ap, _∙_}
+use mathlib.Core.Bool.{false, _&&_}
+use mathlib.Core.List.{List}
+use mathlib.Core.Logic.{_≢_, dite}
 use Prim.Native.Nat.{ℕ, zero, suc, _<_}
 use native.Mathlib.Decide.{ℕ-discrete, decLt}
 use native.Mathlib.Omega.{arith}
@@ -13,56 +13,48 @@ use Rattle.plain.specs.Table.{at}
 use Rattle.plain.proofs.Says.{clash, Says, says-lt, says-eq, says-and, refuted, refutes}
 use Rattle.plain.proofs.Least.{Least, least-is, least-has}
 use Rattle.rings.specs.Tree.{Rooted}
-use Rattle.tables.specs.Verdict.{Sound, Refused, unless}
-use Rattle.tables.specs.Tree.{climb, hub, Reaches, depthOf, treeVerdict, treeOf}
+use Rattle.tables.specs.Verdict.{Sound, Refused}
+use Rattle.tables.specs.Tree.{climb, hub, Inside, Reaches, depthOf, treeVerdict, treeOf}
 use Rattle.tables.specs.Demand1.{SoundTree, TreesExact}
-use Rattle.tables.proofs.Verdicts.{all-sound, sound-all, first-refused, no-check, unless-sound, none-refused, refuse-none, not-both, RefusedAt, refused-at}
-use Rattle.tables.proofs.Climb.{reaches-soon, soon-reaches}
-
-hub-least : (up : List ℕ) → Least (length up) (λ v. eqb (at up v) v) (hub up)
-unfolding hub
-hub-least up = least-has (length up) (λ v. eqb (at up v) v)
+use Rattle.tables.proofs.Verdicts.{all-sound, sound-all, checks-one, least-avoids, unless-avoids, later, unless-sound, none-refused, refuse-none, refused-at}
+use Rattle.tables.proofs.Climb.{arrives, reaches-soon, soon-reaches}
 
 second? : (up : List ℕ) (v : ℕ) → Says (ltb (hub up) v && eqb (at up v) v) ((hub up < v) × (at up v ≡ v))
 second? up v = says-and (says-lt (hub up) v) (says-eq (at up v) v)
 
 pub sound-tree : (up : List ℕ) → treeVerdict up ≡ Sound → SoundTree up
-unfolding treeVerdict
+unfolding treeVerdict hub
 sound-tree up e =
     let n = length up in
     let a = all-sound _ e in
     let h : hub up < n = ltb-true (hub up) n (unless-sound _ _ _ (a .1 .0)) in
-    let l = hub-least up in
+    let l = least-has n (λ v. eqb (at up v) v) in
     record {
-      inside = λ v k. leb-false n (at up v) (none-refused 3 n (λ v. leb n (at up v)) (a .0) v k);
+      inside = λ v k. leb-false n (at up v) (none-refused _ _ _ (a .0) v k);
       hub-in = h;
       hub-self = eqb-true (at up (hub up)) (hub up) (l .here h);
       only = λ v k s. dite (ℕ-discrete v (hub up)) (λ r. r) λ o. dite (decLt v (hub up))
           (λ b. clash (eq-eqb (at up v) v s) (l .before v b))
-          (λ b. absurd (refuted (second? up v) (none-refused 4 n (λ v. ltb (hub up) v && eqb (at up v) v) (a .1 .1 .0) v k) (omega arith, s)));
-      reaches = λ v k. soon-reaches up v (leb-false n (depthOf up v) (none-refused 5 n (λ v. leb n (depthOf up v)) (a .1 .1 .1 .0) v k));
+          (λ b. absurd (refuted (second? up v) (none-refused _ _ _ (a .1 .1 .0) v k) (omega arith, s)));
+      reaches = λ v k. soon-reaches up v (leb-false n (depthOf up v) (none-refused _ _ _ (a .1 .1 .1 .0) v k));
     }
 
 module _ {up : List ℕ} (s : SoundTree up) where
   pub soon : (v : ℕ) → v < length up → depthOf up v < length up
   soon v h = reaches-soon up v (s .inside) h (s .reaches v h)
 
-  depth-least : (v : ℕ) → Least (length up) (λ k. eqb (climb up k v) (hub up)) (depthOf up v)
-  unfolding depthOf
-  depth-least v = least-has (length up) (λ k. eqb (climb up k v) (hub up))
-
   pub depth-hub : depthOf up (hub up) ≡ 0
   unfolding depthOf climb
-  depth-hub = least-is (length up) (λ k. eqb (climb up k (hub up)) (hub up)) 0
+  depth-hub = least-is (length up) (arrives up (hub up)) 0
       (record { le = omega arith; before = λ k h. absurd (omega arith); here = λ _. eq-eqb (hub up) (hub up) refl })
 
   pub depth-up : (v : ℕ) → v < length up → v ≢ hub up → depthOf up v ≡ suc (depthOf up (at up v))
   unfolding depthOf climb
-  depth-up v h o = go (depthOf up v) (depth-least v) (soon v h)
+  depth-up v h o = go (depthOf up v) (least-has (length up) (arrives up v)) (soon v h)
     where
-      go : (d : ℕ) → Least (length up) (λ k. eqb (climb up k v) (hub up)) d → d < length up → d ≡ suc (depthOf up (at up v))
+      go : (d : ℕ) → Least (length up) (arrives up v) d → d < length up → d ≡ suc (depthOf up (at up v))
       go zero l b = absurd (o (eqb-true v (hub up) (l .here b)))
-      go (suc d) l b = ap suc (sym (least-is (length up) (λ k. eqb (climb up k (at up v)) (hub up)) d
+      go (suc d) l b = ap suc (sym (least-is (length up) (arrives up (at up v)) d
           (record { le = omega arith; before = λ k r. l .before (suc k) (omega arith); here = λ _. l .here b })))
 
   pub rooted : Rooted (treeOf up) (depthOf up)
@@ -73,39 +65,27 @@ module _ {up : List ℕ} (s : SoundTree up) where
 
   tree-sound : treeVerdict up ≡ Sound
   unfolding treeVerdict
-  tree-sound = let n = length up in sound-all _ (
-    refuse-none 3 n (λ v. leb n (at up v)) (λ v h. lt-leb n (at up v) (s .inside v h)),
-    (
-      rw (lt-ltb (hub up) n (s .hub-in)) refl,
-      (
-        refuse-none 4 n (λ v. ltb (hub up) v && eqb (at up v) v) (λ v h. refutes (second? up v) (λ k. omega (arith, k .0, s .only v h (k .1)))),
-        (refuse-none 5 n (λ v. leb n (depthOf up v)) (λ v h. lt-leb n (depthOf up v) (soon v h)), tt),
-      ),
-    ),
-  )
+  tree-sound =
+      let n = length up in
+      let lone : (v : ℕ) → v < n → (ltb (hub up) v && eqb (at up v) v) ≡ false = λ v h. refutes (second? up v) (λ k. omega (arith, k .0, s .only v h (k .1))) in
+      sound-all _ (
+        refuse-none _ _ _ (λ v h. lt-leb n (at up v) (s .inside v h)),
+        (rw (lt-ltb (hub up) n (s .hub-in)) refl, (refuse-none _ _ _ lone, (refuse-none _ _ _ (λ v h. lt-leb n (depthOf up v) (soon v h)), tt))),
+      )
 
 never : (up : List ℕ) (v : ℕ) → treeVerdict up ≡ Refused 5 v → (v < length up) × (¬ Reaches up v) × ((u : ℕ) → u < v → Reaches up u)
 unfolding treeVerdict
-never up v e =
+never up v e₀ =
     let n = length up in
-    ⊎-elim (λ q. let r = refused-at 3 n (λ v. leb n (at up v)) q in absurd (omega (arith, r .number))) (λ k.
-    let w : (v : ℕ) → v < n → at up v < n = λ v h. leb-false n (at up v) (none-refused 3 n (λ v. leb n (at up v)) (k .0) v h) in
-    ⊎-elim (λ q. absurd (wrong (ltb (hub up) n) q)) (λ l.
-    ⊎-elim (λ q. let r = refused-at 4 n (λ v. ltb (hub up) v && eqb (at up v) v) q in absurd (omega (arith, r .number))) (λ m.
-    ⊎-elim (λ q.
-    let r : RefusedAt 5 n (λ v. leb n (depthOf up v)) 5 v = refused-at 5 n (λ v. leb n (depthOf up v)) q in (
+    let (a, e₁) = later _ (least-avoids _ _ _ (omega arith)) e₀ in
+    let (_, e₂) = later _ (unless-avoids (ltb (hub up) n) 4 n (omega arith)) e₁ in
+    let (_, e₃) = later _ (least-avoids _ _ _ (omega arith)) e₂ in
+    let r = refused-at 5 n (λ v. leb n (depthOf up v)) (sym (checks-one _) ∙ e₃) in
+    let w : Inside up = λ v h. leb-false n (at up v) (none-refused _ _ _ a v h) in (
       r .machine,
       λ t. omega (arith, leb-true n (depthOf up v) (r .fails), reaches-soon up v w (r .machine) t),
       λ u b. soon-reaches up u (leb-false n (depthOf up u) (r .before u b)),
-    ))
-    (λ q. no-check (q .1)) (first-refused _ [] (m .1)))
-    (first-refused _ _ (l .1)))
-    (first-refused _ _ (k .1)))
-    (first-refused _ _ e)
-  where
-    wrong : (b : Bool) → unless b 4 (length up) ≡ Refused 5 v → ⊥
-    wrong true q = not-both q refl
-    wrong false q = let z : _≡_ {A = ℕ} 4 5 = cc in omega arith
+    )
 
 pub trees-exact : TreesExact
 trees-exact = record { sound = λ up. (sound-tree up, λ s. tree-sound s); never = never }

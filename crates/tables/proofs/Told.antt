@@ -1,9 +1,9 @@
 -- What tables tell of the links L that made them, in the form in which one link after the other keeps it. It determines the tables.
 use mathlib.Core.Path.{_≡_, refl, sym, ap, _∙_}
 use mathlib.Core.List.{List}
-use mathlib.Core.Logic.{dite, _↔_}
+use mathlib.Core.Logic.{_≢_, dite, _↔_, Iff·symm, Iff·trans}
 use Prim.Native.Nat.{ℕ, _<_, _≤_}
-use native.Mathlib.Decide.{ℕ-discrete}
+use native.Mathlib.Decide.{ℕ-discrete, decLe}
 use native.Mathlib.Nat.{le-antisymm}
 use native.Mathlib.Omega.{arith}
 use lib.ListN.{length, replicate, length-replicate, getD-replicate}
@@ -75,8 +75,8 @@ told-map f g k = let m = k .marked in let n = k .named in record {
   marked = record {
     size = m .size;
     small = m .small;
-    ringed = λ x h. (λ i. escape-map f (m .ringed x h .0 i), λ e. m .ringed x h .1 (escape-map g e));
-    carried = λ x h. (λ i. escape-map f (m .carried x h .0 i), λ e. m .carried x h .1 (escape-map g e));
+    ringed = λ x h. Iff·trans (m .ringed x h) (escape-map f, escape-map g);
+    carried = λ x h. Iff·trans (m .carried x h) (escape-map f, escape-map g);
   };
   named = record {
     size = n .size;
@@ -86,18 +86,17 @@ told-map f g k = let m = k .marked in let n = k .named in record {
   };
 }
 
-same-mark : (m k : ℕ) → m ≤ 2 → k ≤ 2 → (1 ≤ m → 1 ≤ k) → (1 ≤ k → 1 ≤ m) → (m ≡ 2 → k ≡ 2) → (k ≡ 2 → m ≡ 2) → m ≡ k
-same-mark m k a b p q r s = dite (ℕ-discrete m 2) (λ e. e ∙ sym (r e)) λ e. dite (ℕ-discrete k 2) (λ f. absurd (e (s f))) λ f.
-    dite (ℕ-discrete m 0) (λ g. dite (ℕ-discrete k 0) (λ i. g ∙ sym i) (λ i. absurd (omega (arith, q (omega arith)))))
-    (λ g. let z = p (omega arith) in omega arith)
+same-mark : (m k : ℕ) → m ≤ 2 → k ≤ 2 → (1 ≤ m) ↔ (1 ≤ k) → (m ≡ 2) ↔ (k ≡ 2) → m ≡ k
+same-mark m k a b p q = dite (ℕ-discrete m 2) (λ e. e ∙ sym (q .0 e)) λ e. dite (decLe 1 m)
+    (λ f. let i = p .0 f in let o : k ≢ 2 = λ z. e (q .1 z) in omega arith)
+    (λ f. let o : ¬ (1 ≤ k) = λ z. f (p .1 z) in omega arith)
 
 module _ {up : List ℕ} {L : Relation} where
   marks-one : {m u : List ℕ} → Marked up L m → Marked up L u → m ≡ u
-  marks-one {m} {u} k l = ext-getD 0 m u (k .size ∙ sym (l .size))
-      (λ x h. let h′ : x < length up = rw (k .size) at h in
-      same-mark (at m x) (at u x) (k .small x h′) (l .small x h′)
-      (λ i. l .ringed x h′ .1 (k .ringed x h′ .0 i)) (λ i. k .ringed x h′ .1 (l .ringed x h′ .0 i))
-      (λ i. l .carried x h′ .1 (k .carried x h′ .0 i)) (λ i. k .carried x h′ .1 (l .carried x h′ .0 i)))
+  marks-one {m} {u} k l = ext-getD 0 m u (k .size ∙ sym (l .size)) (λ x h.
+      let i : x < length up = rw (k .size) at h in
+      same-mark (at m x) (at u x) (k .small x i) (l .small x i)
+      (Iff·trans (k .ringed x i) (Iff·symm (l .ringed x i))) (Iff·trans (k .carried x i) (Iff·symm (l .carried x i))))
 
   -- the names within a group are one
   pub group-name : {g : List ℕ} → Named up L g → {w x y : ℕ} → SameGroup (treeOf up) L w x y → at g x ≡ at g y

@@ -1,8 +1,9 @@
--- What a verdict tells: checks that refuse nothing have each passed, and a refusal is that of the first check that refuses.
+-- What a verdict tells: checks that refuse nothing have each passed, a refusal is that of the first check that refuses,
+-- and checks with other codes have passed.
 use mathlib.Core.Path.{_≡_, refl}
 use mathlib.Core.Bool.{Bool, true, false, cond}
 use mathlib.Core.List.{List, [], _∷_, _++_}
-use mathlib.Core.Logic.{_⊎_, inl, inr}
+use mathlib.Core.Logic.{_≢_, _⊎_, inl, inr}
 use Prim.Native.Nat.{ℕ, _<_}
 use native.Mathlib.Omega.{arith}
 use lib.Dec.{ltb}
@@ -16,17 +17,18 @@ use Rattle.tables.specs.Verdict.{Verdict, Sound, Refused, checks, unless
 pub not-both : {A : Type 0} {c v : ℕ} {r : Verdict} → r ≡ Refused c v → r ≡ Sound → A
 not-both e f = let z : _≡_ {A = ℕ} 0 1 = cc in absurd (omega arith)
 
-abbrev pub AllSound : List Verdict → Type 0
-AllSound [] = Unit
-AllSound (v ∷ vs) = (v ≡ Sound) × AllSound vs
+-- P holds of each of the verdicts
+abbrev pub All : (Verdict → Type 0) → List Verdict → Type 0
+All P [] = Unit
+All P (v ∷ vs) = P v × All P vs
 
-pub all-sound : (vs : List Verdict) → checks vs ≡ Sound → AllSound vs
+pub all-sound : (vs : List Verdict) → checks vs ≡ Sound → All (λ v. v ≡ Sound) vs
 unfolding checks
 all-sound [] e = tt
 all-sound (Sound ∷ vs) e = (refl, all-sound vs e)
 all-sound (Refused c v ∷ vs) e = not-both refl e
 
-pub sound-all : (vs : List Verdict) → AllSound vs → checks vs ≡ Sound
+pub sound-all : (vs : List Verdict) → All (λ v. v ≡ Sound) vs → checks vs ≡ Sound
 unfolding checks
 sound-all [] a = refl
 sound-all (v ∷ vs) a = rw (a .0) (sound-all vs (a .1))
@@ -59,15 +61,35 @@ checks-then [] vs ws e = e
 checks-then (Sound ∷ us) vs ws e = checks-then us vs ws e
 checks-then (Refused c p ∷ us) vs ws e = refl
 
--- the first check refuses, or it passes and a later one does
-pub first-refused : {c p : ℕ} (v : Verdict) (vs : List Verdict) → checks (v ∷ vs) ≡ Refused c p → (v ≡ Refused c p) ⊎ ((v ≡ Sound) × (checks vs ≡ Refused c p))
-unfolding checks
-first-refused Sound vs e = inr (refl, e)
-first-refused (Refused c v) vs e = inl e
+-- no refusal of this check has code k
+abbrev pub Avoids : ℕ → Verdict → Type 0
+Avoids k v = (c p : ℕ) → v ≡ Refused c p → c ≢ k
 
-pub no-check : {A : Type 0} {c v : ℕ} → checks [] ≡ Refused c v → A
+pub sound-avoids : {k : ℕ} → Avoids k Sound
+sound-avoids c p e = not-both e refl
+
+pub refused-avoids : {k code value : ℕ} → code ≢ k → Avoids k (Refused code value)
+refused-avoids o c p e z = o (cc)
+
+pub checks-avoid : {k : ℕ} (vs : List Verdict) → All (Avoids k) vs → Avoids k (checks vs)
 unfolding checks
-no-check e = not-both e refl
+checks-avoid [] a = sound-avoids
+checks-avoid (Sound ∷ vs) a = checks-avoid vs (a .1)
+checks-avoid (Refused c p ∷ vs) a = a .0
+
+pub unless-avoids : {k : ℕ} (b : Bool) (code value : ℕ) → code ≢ k → Avoids k (unless b code value)
+unless-avoids true code value o = sound-avoids
+unless-avoids false code value o = refused-avoids o
+
+pub least-avoids : {k : ℕ} (code n : ℕ) (p : ℕ → Bool) → code ≢ k → Avoids k (refuseLeast code n p)
+unfolding refuseLeast
+least-avoids code n p o = by-cases (ltb (least n p) n) (λ t. rw t (refused-avoids o)) (λ t. rw t sound-avoids)
+
+-- a refusal is of none of the checks that avoid its code
+pub later : {v : Verdict} {c p : ℕ} (vs : List Verdict) → Avoids c v → checks (v ∷ vs) ≡ Refused c p → (v ≡ Sound) × (checks vs ≡ Refused c p)
+unfolding checks
+later {v = Sound} vs o e = (refl, e)
+later {v = Refused k r} {c} {p} vs o e = absurd (o c p e refl)
 
 pub unless-sound : (b : Bool) (c v : ℕ) → unless b c v ≡ Sound → b ≡ true
 unless-sound true c v e = refl
@@ -77,7 +99,7 @@ pub cond-refused : (b : Bool) (c v : ℕ) (r : Verdict) → cond b (Refused c v)
 cond-refused true c v r e = not-both refl e
 cond-refused false c v r e = (refl, e)
 
-pub none-refused : (code n : ℕ) (p : ℕ → Bool) → refuseLeast code n p ≡ Sound → (k : ℕ) → k < n → p k ≡ false
+pub none-refused : (code n : ℕ) (p : ℕ → Bool) → refuseLeast code n p ≡ Sound → NoneBelow p n
 unfolding refuseLeast
 none-refused code n p e k h = let l = ltb-false (least n p) n (cond-refused _ _ _ _ e .0) in least-has n p .before k (omega arith)
 
@@ -97,19 +119,18 @@ unfolding refuseLeast
 refuse-view code n p = by-cases (ltb (least n p) n) (λ t. inr (least n p, rw t refl)) (λ t. inl (rw t refl))
 
 -- what a refusal by the least machine tells
-pub record RefusedAt (code n : ℕ) (p : ℕ → Bool) (c v : ℕ) : Type 0 where
-  pub number : c ≡ code
+pub record RefusedAt (n : ℕ) (p : ℕ → Bool) (v : ℕ) : Type 0 where
   pub machine : v < n
   pub fails : p v ≡ true
-  pub before : (u : ℕ) → u < v → p u ≡ false
+  pub before : NoneBelow p v
 
-pub refused-at : (code n : ℕ) (p : ℕ → Bool) {c v : ℕ} → refuseLeast code n p ≡ Refused c v → RefusedAt code n p c v
+pub refused-at : (code n : ℕ) (p : ℕ → Bool) {v : ℕ} → refuseLeast code n p ≡ Refused code v → RefusedAt n p v
 unfolding refuseLeast
-refused-at code n p {c} {v} e = by-cases (ltb (least n p) n)
+refused-at code n p {v} e = by-cases (ltb (least n p) n)
     (λ t.
-    let f : Refused code (least n p) ≡ Refused c v = rw t at e in
+    let f : Refused code (least n p) ≡ Refused code v = rw t at e in
     let k : v ≡ least n p = cc in
     let l = least-has n p in
     let h = ltb-true (least n p) n t in
-    record { number = cc; machine = rw k h; fails = rw k (l .here h); before = rw k (l .before) })
-    (λ t. let f : Sound ≡ Refused c v = rw t at e in not-both f refl)
+    rw k (record { machine = h; fails = l .here h; before = l .before }))
+    (λ t. let f : Sound ≡ Refused code v = rw t at e in not-both f refl)

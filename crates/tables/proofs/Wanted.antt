@@ -2,25 +2,25 @@
 -- group has another's name. The rules say that each of these asks nothing beyond what the tables have: so the tables tell of just these links.
 use mathlib.Core.Path.{_≡_, refl, sym, ap, _∙_}
 use mathlib.Core.List.{List}
-use mathlib.Core.Logic.{_≢_, _⊎_, inl, inr, ⊎-elim, dite}
+use mathlib.Core.Logic.{_≢_, _⊎_, inl, ⊎-elim, dite, Ne·symm}
 use Prim.Native.Nat.{ℕ, suc, _<_, _≤_}
 use native.Mathlib.Decide.{ℕ-discrete}
 use native.Mathlib.Omega.{arith}
 use lib.ListN.{length}
-use lib.Seq.{ext-getD}
 use borrow.Author.Tests.{eq-eqb, ne-eqb}
-use Rattle.plain.proofs.Tabulate.{length-tabulate, at-tabulate}
-use Rattle.plain.specs.Table.{at, tabulate}
+use Rattle.plain.proofs.Tabulate.{tabulated}
+use Rattle.plain.specs.Table.{at}
 use Rattle.graph.proofs.Walks.{one-step, join}
 use Rattle.graph.specs.Walk.{Relation, stay, step}
 use Rattle.rings.proofs.Under.{uplinked, rest, rise, no-return, one-child}
-use Rattle.rings.specs.Ring.{Rings, Carries}
+use Rattle.rings.specs.Ring.{Escape}
 use Rattle.rings.specs.Tree.{Uplink, Under}
 use Rattle.tables.specs.Tables.{Tables}
 use Rattle.tables.specs.Tree.{hub, depthOf, treeOf}
 use Rattle.tables.proofs.Kept.{Kept}
 use Rattle.tables.specs.Demand1.{SoundTree}
 use Rattle.tables.proofs.Sound.{rooted, depth-hub, depth-up}
+use Rattle.tables.proofs.Lines.{up-over}
 use Rattle.tables.proofs.Told.{Told}
 
 -- the link is wanted
@@ -30,7 +30,7 @@ pub data Wanted (up : List ℕ) (t : Tables) (v : ℕ) : ℕ → Type 0 where
   tie : at (t .group) v ≢ v → Wanted up t v (at (t .group) v)
 
 -- either way round
-abbrev pub Wants : List ℕ → Tables → Relation
+abbrev Wants : List ℕ → Tables → Relation
 Wants up t a b = ((a < length up) × Wanted up t a b) ⊎ ((b < length up) × Wanted up t b a)
 
 module _ {up : List ℕ} {t : Tables} (s : SoundTree up) (k : (v : ℕ) → v < length up → Kept up t v) where
@@ -49,17 +49,21 @@ module _ {up : List ℕ} {t : Tables} (s : SoundTree up) (k : (v : ℕ) → v < 
   pub second : (v : ℕ) → v < length up → at (t .mark) v ≡ 2 → Uplink (treeOf up) (at up v) (at up (at up v))
   second v h e = uplinked (s .inside v h) (k v h .carried e .0)
 
-  first : (v b : ℕ) → v < length up → Wanted up t v b → Uplink (treeOf up) v (at up v)
-  first v b h (ring m) = uplinked h (ringed-other v h m)
-  first v b h (carry e) = uplinked h (ringed-other v h (omega arith))
-  first v b h (tie o) = uplinked h (tied-other v h o)
+  first : {v b : ℕ} → v < length up → Wanted up t v b → Uplink (treeOf up) v (at up v)
+  first {v} h (ring m) = uplinked h (ringed-other v h m)
+  first {v} h (carry e) = uplinked h (ringed-other v h (omega arith))
+  first {v} h (tie o) = uplinked h (tied-other v h o)
 
-  -- what is over b is over v, or is b = group v
-  down : {x v b : ℕ} → v < length up → Wanted up t v b → Under (treeOf up) x b → Under (treeOf up) x v ⊎ ((x ≡ b) × (b ≡ at (t .group) v) × (at (t .group) v ≢ v))
-  down {x} {v} {b} h (ring m) u = inl (step (first v b h (ring m)) u)
-  down {x} {v} {b} h (carry e) u = inl (step (first v b h (carry e)) (step (second v h e) u))
-  down {x} {v} {b} h (tie o) u = dite (ℕ-discrete (at (t .group) v) x) (λ e. inr (sym e, refl, o))
-      (λ e. let r = first v b h (tie o) in inl (step r (rest (name-up v h (r .other)) e u)))
+  -- what is over b is over v, or is b, the name of v's group
+  data Down (v b x : ℕ) : Type 0 where
+    under : Under (treeOf up) x v → Down v b x
+    named : x ≡ b → b ≡ at (t .group) v → at (t .group) v ≢ v → Down v b x
+
+  down : {x v b : ℕ} → v < length up → Wanted up t v b → Under (treeOf up) x b → Down v b x
+  down h (ring m) u = under (step (first h (ring m)) u)
+  down {v = v} h (carry e) u = under (step (first h (carry e)) (step (second v h e) u))
+  down {x} {v} h (tie o) u = dite (ℕ-discrete (at (t .group) v) x) (λ e. named (sym e) refl o)
+      (λ e. let r = first h (tie o) in under (step r (rest (name-up v h (r .other)) e u)))
 
   -- what is over v is v, is over b, or is up v with v carried
   data Over (v b x : ℕ) : Type 0 where
@@ -68,61 +72,58 @@ module _ {up : List ℕ} {t : Tables} (s : SoundTree up) (k : (v : ℕ) → v < 
     between : at (t .mark) v ≡ 2 → b ≡ at up (at up v) → at up v ≡ x → Over v b x
 
   overs : {x v b : ℕ} → v < length up → Wanted up t v b → Under (treeOf up) x v → Over v b x
-  overs {x} {v} {b} h l u = dite (ℕ-discrete v x) same (λ o. go l (rest (first v b h l) o u))
+  overs {x} {v} h l u = dite (ℕ-discrete v x) same (λ o. go l (rest (first h l) o u))
     where
       go : {b : ℕ} → Wanted up t v b → Under (treeOf up) x (at up v) → Over v b x
       go (ring m) w = above w
       go (carry e) w = dite (ℕ-discrete (at up v) x) (between e refl) (λ z. above (rest (second v h e) z w))
       go (tie o) w = above (step (name-up v h (tied-other v h o)) w)
 
+  -- how a wanted link leads from under x to what is not under y, where y is over x: it is of x, of a carried machine right below x, or to its name x
+  data Out (x y : ℕ) : Type 0 where
+    own : {b : ℕ} → x < length up → Wanted up t x b → ¬ Under (treeOf up) y b → Out x y
+    below : {v : ℕ} → v < length up → at (t .mark) v ≡ 2 → at up v ≡ x → ¬ Under (treeOf up) y (at up x) → Out x y
+    name : {v : ℕ} → v < length up → at (t .group) v ≢ v → at (t .group) v ≡ x → ¬ Under (treeOf up) y v → Out x y
+
+  out : {x y : ℕ} → Under (treeOf up) y x → Escape (treeOf up) (Wants up t) x y → Out x y
+  out {x} {y} o g = ⊎-elim (λ p. from (p .0) (p .1) (overs (p .0) (p .1) (g .below)) (g .beyond))
+      (λ p. to (p .0) (down (p .0) (p .1) (g .below)) (g .beyond)) (g .link)
+    where
+      from : {v b : ℕ} → v < length up → Wanted up t v b → Over v b x → ¬ Under (treeOf up) y b → Out x y
+      from h l (same e) q = own (rw e at h) (rw e at l) q
+      from h l (above u) q = absurd (q (join u o))
+      from h l (between e f i) q = below h e i (rw (← i, ← f) q)
+
+      to : {v b : ℕ} → v < length up → Down v b x → ¬ Under (treeOf up) y v → Out x y
+      to h (under u) q = absurd (q (join u o))
+      to h (named e f n) q = name h n (sym (e ∙ f)) q
+
   marked : {v b : ℕ} → v < length up → Wanted up t v b → 1 ≤ at (t .mark) v
   marked h (ring m) = m
   marked h (carry e) = omega arith
   marked {v} h (tie o) = k v h .partner (tied-other v h o) o .1
 
-  rings-of : {x : ℕ} → Rings (treeOf up) (Wants up t) x → 1 ≤ at (t .mark) x
-  rings-of {x} g = ⊎-elim (λ p. out (p .0) (p .1) (overs (p .0) (p .1) (g .below)) (g .beyond)) (λ p. back (p .0) (p .1) (down (p .0) (p .1) (g .below)) (g .beyond)) (g .link)
-    where
-      out : {v b : ℕ} → v < length up → Wanted up t v b → Over v b x → ¬ Under (treeOf up) x b → 1 ≤ at (t .mark) x
-      out h l (same e) q = rw e at (marked h l)
-      out h l (above u) q = absurd (q u)
-      out {v} h l (between e f i) q = rw i at (k v h .carried e .1)
+  rings-out : {x : ℕ} → Out x x → 1 ≤ at (t .mark) x
+  rings-out (own h l q) = marked h l
+  rings-out (below {v = v} h e i q) = rw i at (k v h .carried e .1)
+  rings-out (name {v = v} h o e q) = rw e at (k v h .partner (tied-other v h o) o .0)
 
-      back : {v b : ℕ} → v < length up → Wanted up t v b → Under (treeOf up) x v ⊎ ((x ≡ b) × (b ≡ at (t .group) v) × (at (t .group) v ≢ v)) → ¬ Under (treeOf up) x v → 1 ≤ at (t .mark) x
-      back h l (inl u) q = absurd (q u)
-      back {v} h l (inr (e, f, o)) q = rw (e, f) (k v h .partner (tied-other v h o) o .0)
-
-  carries-of : {x : ℕ} → x < length up → Carries (treeOf up) (Wants up t) x → at (t .mark) x ≡ 2
-  carries-of {x} i g = ⊎-elim (λ p. out (p .0) (p .1) (overs (p .0) (p .1) (g .below)) (g .beyond)) (λ p. back (p .0) (p .1) (down (p .0) (p .1) (g .below)) (g .beyond)) (g .link)
-    where
-      lift : {z : ℕ} → Under (treeOf up) x z → Under (treeOf up) (at up x) z
-      lift u = dite (ℕ-discrete x (hub up)) (λ e. let q : at up x ≡ x = ap (at up) e ∙ s .hub-self ∙ sym e in rw q u) (λ o. join u (one-step (uplinked i o)))
-
-      own : {v b : ℕ} → v < length up → Wanted up t v b → ¬ Under (treeOf up) (at up v) b → at (t .mark) v ≡ 2
-      own h (ring m) q = absurd (q stay)
-      own h (carry e) q = e
-      own {v} h (tie o) q = absurd (q (one-step (name-up v h (tied-other v h o))))
-
-      out : {v b : ℕ} → v < length up → Wanted up t v b → Over v b x → ¬ Under (treeOf up) (at up x) b → at (t .mark) x ≡ 2
-      out h l (same e) q = rw e at (own h l (rw e q))
-      out h l (above u) q = absurd (q (lift u))
-      out h l (between e f z) q = absurd (q (rw (f, z) stay))
-
-      back : {v b : ℕ} → v < length up → Wanted up t v b → Under (treeOf up) x v ⊎ ((x ≡ b) × (b ≡ at (t .group) v) × (at (t .group) v ≢ v)) → ¬ Under (treeOf up) (at up x) v → at (t .mark) x ≡ 2
-      back h l (inl u) q = absurd (q (lift u))
-      back {v} {b} h l (inr (e, f, o)) q =
-          let r = first v b h l in
-          absurd (q (rw (e, f, name-up v h (r .other) .to) (one-step r)))
+  carries-out : {x : ℕ} → Out x (at up x) → at (t .mark) x ≡ 2
+  carries-out (own h (ring m) q) = absurd (q stay)
+  carries-out (own h (carry e) q) = e
+  carries-out {x} (own h (tie o) q) = absurd (q (one-step (name-up x h (tied-other x h o))))
+  carries-out (below h e i q) = absurd (q stay)
+  carries-out (name {v = v} h o e q) = let z = tied-other v h o in absurd (q (rw (← e, name-up v h z .to) (one-step (uplinked h z))))
 
   -- a link from under one child to under another is from a machine to its group's name
   ties : {w x y v b : ℕ} → v < length up → Wanted up t v b → Uplink (treeOf up) x w → Uplink (treeOf up) y w → x ≢ y → Under (treeOf up) x v → Under (treeOf up) y b → at (t .group) x ≡ at (t .group) y
   ties {w} {x} {y} {v} {b} h l r q o u z = go (overs h l u) (down h l z)
     where
-      go : Over v b x → Under (treeOf up) y v ⊎ ((y ≡ b) × (b ≡ at (t .group) v) × (at (t .group) v ≢ v)) → at (t .group) x ≡ at (t .group) y
-      go p (inl c) = absurd (o (one-child (rooted s) r q u c))
-      go (same i) (inr (e, f, n)) = rw (← i, e, f) (sym (k v h .group (tied-other v h n) .1 .1 .1 .1))
-      go (above c) (inr n) = absurd (o (one-child (rooted s) r q c z))
-      go (between e f i) (inr n) = let c : w ≡ y = sym (r .to) ∙ ap (at up) (sym i) ∙ sym f ∙ sym (n .0) in absurd (no-return (rooted s) q (rw c stay))
+      go : Over v b x → Down v b y → at (t .group) x ≡ at (t .group) y
+      go p (under c) = absurd (o (one-child (rooted s) r q u c))
+      go (same i) (named e f n) = rw (← i, e, f) (sym (k v h .group (tied-other v h n) .1 .1 .1 .1))
+      go (above c) (named e f n) = absurd (o (one-child (rooted s) r q c z))
+      go (between e f i) (named j _ _) = let c : w ≡ y = sym (r .to) ∙ ap (at up) (sym i) ∙ sym f ∙ sym j in absurd (no-return (rooted s) q (rw c stay))
 
   depth-at : (x : ℕ) → x < length up → at (t .depth) x ≡ depthOf up x
   depth-at = rise (rooted s) (λ x. at (t .depth) x ≡ depthOf up x)
@@ -132,18 +133,17 @@ module _ {up : List ℕ} {t : Tables} (s : SoundTree up) (k : (v : ℕ) → v < 
   -- The tables tell of the wanted links.
   pub wants-told : length (t .depth) ≡ length up → length (t .group) ≡ length up → length (t .mark) ≡ length up → Told up (Wants up t) t
   wants-told ld lg lm = record {
-    depths = ext-getD 0 (t .depth) (tabulate (length up) (depthOf up)) (ld ∙ sym (length-tabulate (length up) (depthOf up)))
-        (λ x h. let h′ : x < length up = rw ld at h in depth-at x h′ ∙ sym (at-tabulate (length up) (depthOf up) x h′));
+    depths = tabulated (t .depth) (length up) (depthOf up) ld depth-at;
     marked = record {
       size = lm;
       small = λ x h. k x h .small;
-      ringed = λ x h. (λ m. let r = uplinked h (ringed-other x h m) in record { inner = x; outer = at up x; link = inl (h, ring m); below = stay; beyond = no-return (rooted s) r }, rings-of);
-      carried = λ x h. (λ e. record { inner = x; outer = at up (at up x); link = inl (h, carry e); below = stay; beyond = no-return (rooted s) (second x h e) }, carries-of h);
+      ringed = λ x h. (λ m. let r = uplinked h (ringed-other x h m) in record { inner = x; outer = at up x; link = inl (h, ring m); below = stay; beyond = no-return (rooted s) r }, λ g. rings-out (out stay g));
+      carried = λ x h. (λ e. record { inner = x; outer = at up (at up x); link = inl (h, carry e); below = stay; beyond = no-return (rooted s) (second x h e) }, λ g. carries-out (out (up-over s x h) g));
     };
     named = record {
       size = lg;
       agree = λ j. ⊎-elim (λ p. ties (p .0) (p .1) (j .left) (j .right) (j .apart) (j .below-left) (j .below-right))
-          (λ p. sym (ties (p .0) (p .1) (j .right) (j .left) (λ e. j .apart (sym e)) (j .below-right) (j .below-left))) (j .link);
+          (λ p. sym (ties (p .0) (p .1) (j .right) (j .left) (Ne·symm (j .apart)) (j .below-right) (j .below-left))) (j .link);
       own = λ x h. dite (ℕ-discrete (at (t .group) x) x) (λ e. rw e stay) (λ o.
           let z = tied-other x h o in
           one-step (record { left = uplinked h z; right = name-up x h z; apart = λ e. o (sym e); one = x; two = at (t .group) x; link = inl (h, tie o); below-left = stay; below-right = stay }));
