@@ -1,4 +1,4 @@
-// Texts, numbers, lists and answers, to standard output.
+// Texts, lists and answers, to standard output.
 use libc::STDOUT_FILENO;
 use site::Answer;
 
@@ -7,13 +7,7 @@ pub fn text(bytes: &[u8]) {
     io::write_all(STDOUT_FILENO, bytes);
 }
 
-// A number after a space.
-pub fn number(value: usize) {
-    text(b" ");
-    io::print_decimal(STDOUT_FILENO, value as u64);
-}
-
-// The entry at `place` of a list: a space stands before the first, a comma before the others.
+// A number of a list, with a space before the first and a comma before the others.
 fn entry(place: usize, value: u16) {
     if place == 0 {
         text(b" ");
@@ -23,7 +17,7 @@ fn entry(place: usize, value: u16) {
     io::print_decimal(STDOUT_FILENO, value as u64);
 }
 
-// A byte as an entry.
+// The same for a byte.
 fn byte(place: usize, value: u8) {
     entry(place, value as u16);
 }
@@ -51,19 +45,7 @@ pub fn bytes(name: &[u8], values: &[u8]) {
 // A call's name, its code and its value.
 pub fn answer(call: &[u8], given: Answer) {
     text(call);
-    number(given.code as usize);
-    number(given.value);
-}
-
-// Whether every lent slice is as it was, told slice by slice.
-pub fn kept(first: bool, second: bool, third: bool) {
-    if first {
-        if second {
-            if third {
-                text(b" same");
-                return;
-            }
-        }
-    }
-    text(b" CHANGED");
+    entry(0, given.code);
+    text(b" ");
+    io::print_decimal(STDOUT_FILENO, given.value as u64);
 }

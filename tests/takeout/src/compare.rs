@@ -1,191 +1,159 @@
 //! Setting the program under test against takeout's own answers, file by file.
 
-use std::fmt::Write as _;
 use std::io::{self, BufRead, BufReader, BufWriter, Read, Write};
-use std::ops::ControlFlow;
-use std::process::{Child, ChildStdin, ChildStdout, Command, ExitCode, Stdio};
+use std::process::{self, Child, ChildStdin, ChildStdout, Command, Stdio};
 use std::thread;
 
 use crate::answer::answer;
 use crate::draft::Visit;
-use crate::file;
+use crate::file::{self, SiteFile};
 use crate::search::chokes;
-use crate::{damage, sites};
+use crate::{damaged_links, damaged_records, damaged_trees, sites};
 
-/// A sort of files that can be picked by name.
+/// A sort of files.
 #[derive(Clone, Copy)]
 pub struct Class {
-    name: &'static str,
-    /// What its files are called when they have agreed.
+    /// What its files are called. It is picked by the first word.
     things: &'static str,
     /// Makes the same files in the same order each time.
-    files: fn(Visit) -> ControlFlow<()>,
+    files: fn(Visit),
 }
 
 pub const ALL: [Class; 4] = [
     Class {
-        name: "small",
         things: "small sites",
         files: sites::small,
     },
     Class {
-        name: "random",
         things: "random sites",
         files: sites::random,
     },
     Class {
-        name: "damaged",
         things: "damaged files",
-        files: damage::damaged,
+        files: damaged,
     },
     Class {
-        name: "large",
         things: "large sites and files",
         files: large,
     },
 ];
 
+/// Damaged files of every kind that codes 1 to 13 name. What each has to be answered is the reader's to say: some come out
+/// sound by chance, and they are as good a test.
+fn damaged(visit: Visit) {
+    damaged_records::all(visit);
+    damaged_trees::all(visit);
+    damaged_links::all(visit);
+}
+
 /// What may be slow to answer: the large sites, and the damaged files of thousands of machines.
-fn large(visit: Visit) -> ControlFlow<()> {
-    sites::large(visit)?;
-    damage::damaged_large(visit)
+fn large(visit: Visit) {
+    sites::large(visit);
+    damaged_trees::large(visit);
+    damaged_links::large(visit);
 }
 
 /// The classes of a list of names with commas between; none if a name is unknown.
 pub fn classes_named(names: &str) -> Option<Vec<Class>> {
+    let first_word = |class: &Class| class.things.split(' ').next();
     names
         .split(',')
-        .map(|name| ALL.into_iter().find(|class| class.name == name))
+        .map(|name| {
+            ALL.into_iter()
+                .find(|class| first_word(class) == Some(name))
+        })
         .collect()
 }
 
-/// Feeds the files of the classes to a program and stops with status 1 at the first answer that differs.
-pub fn compare(classes: &[Class], cmd: &str, args: &[&str]) -> ExitCode {
-    let started = Command::new(cmd)
+/// Feeds the files of the classes to a program and ends with status 1 at the first answer that differs.
+pub fn compare(classes: &[Class], cmd: &str, args: &[&str]) -> io::Result<()> {
+    let mut child = Command::new(cmd)
         .args(args)
         .stdin(Stdio::piped())
         .stdout(Stdio::piped())
-        .spawn();
-    let mut child = match started {
-        Ok(child) => child,
-        Err(error) => {
-            eprintln!("takeout: {cmd}: {error}");
-            return ExitCode::from(2);
-        }
-    };
+        .spawn()
+        .map_err(|error| io::Error::new(error.kind(), format!("{cmd}: {error}")))?;
     let stdin = child.stdin.take().expect("standard input is a pipe");
     let stdout = child.stdout.take().expect("standard output is a pipe");
     // Both sides make the files anew, so nothing is kept between them, and the program may read as far ahead of its answers
     // as it likes without either side waiting for the other.
     let fed = classes.to_vec();
     let feeder = thread::spawn(move || feed(&fed, stdin));
-    let mut answers = Answers {
-        out: BufReader::with_capacity(1 << 16, stdout),
-    };
-    let outcome = compare_all(classes, &mut answers);
-    if outcome.is_err() {
-        stop(&mut child);
-    } else {
-        // The program has ended its output; it is waited for, and how it ended says nothing.
-        let _ = feeder.join();
-        let _ = child.wait();
-    }
-    match outcome {
-        Ok(lines) => {
-            print!("{lines}");
-            ExitCode::SUCCESS
-        }
-        Err(difference) => {
-            print!("{difference}");
-            ExitCode::from(1)
-        }
-    }
-}
-
-/// Ends the program under test, which may be in the middle of the stream.
-fn stop(child: &mut Child) {
-    let _ = child.kill();
-    let _ = child.wait();
-}
-
-/// Writes the stream. A program that stops reading breaks it off; that shows as a missing answer.
-fn feed(classes: &[Class], stdin: ChildStdin) {
-    let mut stream = BufWriter::with_capacity(1 << 16, stdin);
-    for class in classes {
-        let made = (class.files)(&mut |file| match feed_file(&mut stream, file) {
-            Ok(()) => ControlFlow::Continue(()),
-            Err(_) => ControlFlow::Break(()),
-        });
-        if made.is_break() {
-            return;
-        }
-    }
-    let _ = stream.flush();
-}
-
-fn feed_file(stream: &mut impl Write, file: &[u8]) -> io::Result<()> {
-    let length = u16::try_from(file.len()).expect("the stream gives lengths in 16 bits");
-    stream.write_all(&length.to_le_bytes())?;
-    stream.write_all(file)
-}
-
-/// The lines that say what agreed, or else those that show the first difference.
-fn compare_all(classes: &[Class], answers: &mut Answers) -> Result<String, String> {
+    let mut out = BufReader::with_capacity(1 << 16, stdout);
     let mut agreed = String::new();
     for class in classes {
         let mut tally = Tally::default();
-        let mut difference = None;
-        let _ = (class.files)(&mut |bytes| {
+        (class.files)(&mut |bytes| {
             let site = file::read(bytes);
-            let mut expected = answer(&site, chokes);
-            expected.push_str(".\n");
-            let came = answers.next(expected.len());
+            let expected = answer(&site, chokes) + ".\n";
+            let came = next_answer(&mut out, expected.len());
             if came != expected.as_bytes() {
-                difference = Some(show(class, tally.files + 1, bytes, &expected, &came));
-                return ControlFlow::Break(());
+                let place = grouped(tally.files + 1);
+                fail(
+                    &mut child,
+                    &format!(
+                        "file {place} of the {} differs\n{}",
+                        class.things,
+                        show(bytes, &expected, &came)
+                    ),
+                );
             }
             tally.count(&site);
-            ControlFlow::Continue(())
         });
-        if let Some(difference) = difference {
-            return Err(difference);
-        }
-        agreed.push_str(&tally.line(class));
+        agreed += &tally.line(class);
     }
-    let more = answers.next(0);
+    let more = next_answer(&mut out, 0);
     if !more.is_empty() {
-        return Err(format!(
-            "takeout: more came after the last answer:\n{}",
-            String::from_utf8_lossy(&more)
-        ));
+        let more = String::from_utf8_lossy(&more);
+        fail(
+            &mut child,
+            &format!("more came after the last answer:\n{more}"),
+        );
     }
-    Ok(agreed)
+    // The program has ended its output; it is waited for, and how it ended says nothing.
+    let _ = feeder.join();
+    let _ = child.wait();
+    print!("{agreed}");
+    Ok(())
 }
 
-/// The program's output, answer by answer.
-struct Answers {
-    out: BufReader<ChildStdout>,
+/// Writes the stream. A program that stops reading shows by a missing answer.
+fn feed(classes: &[Class], stdin: ChildStdin) {
+    let mut stream = BufWriter::with_capacity(1 << 16, stdin);
+    for class in classes {
+        (class.files)(&mut |file| {
+            let length = u16::try_from(file.len()).expect("the stream gives lengths in 16 bits");
+            let _ = stream.write_all(&length.to_le_bytes());
+            let _ = stream.write_all(file);
+        });
+    }
 }
 
-impl Answers {
-    /// How much is taken beyond the length expected, to show, from a program that does not end its answer.
-    const EXCESS: usize = 2_000;
+/// Ends the program under test, which may be in the middle of the stream, and takeout with it.
+fn fail(child: &mut Child, why: &str) {
+    let _ = child.kill();
+    let _ = child.wait();
+    print!("takeout: {why}");
+    process::exit(1);
+}
 
-    /// The lines up to the dot that ends them; without it if the output ends before or the answer grows far too long.
-    fn next(&mut self, expected: usize) -> Vec<u8> {
-        let limit = expected + Answers::EXCESS;
-        let mut came = Vec::new();
-        while came.len() < limit {
-            let start = came.len();
-            let room = (limit - start) as u64;
-            match self.out.by_ref().take(room).read_until(b'\n', &mut came) {
-                Ok(0) | Err(_) => break,
-                Ok(_) if came[start..] == *b".\n" => break,
-                Ok(_) => {}
-            }
+/// How much is taken beyond the length expected, to show, from a program that does not end its answer.
+const EXCESS: usize = 2_000;
+
+/// The lines up to the dot that ends them; without it if the output ends before or the answer grows far too long.
+fn next_answer(out: &mut BufReader<ChildStdout>, expected: usize) -> Vec<u8> {
+    let limit = expected + EXCESS;
+    let mut came = Vec::new();
+    while came.len() < limit {
+        let start = came.len();
+        let room = (limit - start) as u64;
+        match out.by_ref().take(room).read_until(b'\n', &mut came) {
+            Ok(0) | Err(_) => break,
+            Ok(_) if came[start..] == *b".\n" => break,
+            Ok(_) => {}
         }
-        came
     }
+    came
 }
 
 /// What has agreed in a class.
@@ -198,44 +166,39 @@ struct Tally {
 }
 
 impl Tally {
-    fn count(&mut self, site: &file::SiteFile) {
+    fn count(&mut self, site: &SiteFile) {
         self.files += 1;
         self.reports += site.reports.len();
         self.codes[site.refusal.map_or(0, |refusal| usize::from(refusal.code))] += 1;
     }
 
     fn line(&self, class: &Class) -> String {
-        let mut line = format!("takeout: {} {} agreed", grouped(self.files), class.things);
-        let _ = write!(
-            line,
-            " ({} reports; {} sound",
+        let mut line = format!(
+            "takeout: {} {} agreed ({} reports; {} sound",
+            grouped(self.files),
+            class.things,
             grouped(self.reports),
             grouped(self.codes[0])
         );
         for (code, &files) in self.codes.iter().enumerate().skip(1) {
             if files > 0 {
-                let _ = write!(line, ", {} refused with {code}", grouped(files));
+                line += &format!(", {} refused with {code}", grouped(files));
             }
         }
-        line.push_str(")\n");
-        line
+        line + ")\n"
     }
 }
 
 /// A number with a comma before every three last digits.
 fn grouped(number: usize) -> String {
-    let digits = number.to_string();
-    let mut text = String::new();
-    for (place, digit) in digits.chars().enumerate() {
-        if place > 0 && (digits.len() - place).is_multiple_of(3) {
-            text.push(',');
-        }
-        text.push(digit);
+    match number {
+        0..1_000 => number.to_string(),
+        _ => format!("{},{:03}", grouped(number / 1_000), number % 1_000),
     }
-    text
 }
 
-fn show(class: &Class, place: usize, bytes: &[u8], expected: &str, came: &[u8]) -> String {
+/// A file and its two answers.
+fn show(bytes: &[u8], expected: &str, came: &[u8]) -> String {
     let hex: Vec<String> = bytes.iter().map(|byte| format!("{byte:02x}")).collect();
     let whole = came == b".\n" || came.ends_with(b"\n.\n");
     let ended = if whole {
@@ -244,9 +207,7 @@ fn show(class: &Class, place: usize, bytes: &[u8], expected: &str, came: &[u8]) 
         "(and no line with a dot to end it)\n"
     };
     format!(
-        "takeout: file {} of the {} differs\nfile, {} bytes: {}\nexpected:\n{expected}came:\n{}{ended}",
-        grouped(place),
-        class.things,
+        "file, {} bytes: {}\nexpected:\n{expected}came:\n{}{ended}",
         bytes.len(),
         hex.join(" "),
         String::from_utf8_lossy(came),

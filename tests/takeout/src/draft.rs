@@ -1,11 +1,9 @@
 //! Writing a site file, record by record, without asking whether it is a good one.
 
-use std::ops::ControlFlow;
-
 use crate::file::Link;
 
-/// Takes each file that a generator makes, and may tell it to stop.
-pub type Visit<'a> = &'a mut dyn FnMut(&[u8]) -> ControlFlow<()>;
+/// Takes each file that a generator makes.
+pub type Visit<'a> = &'a mut dyn FnMut(&[u8]);
 
 /// A site file in the making.
 #[derive(Clone, Default)]
@@ -18,40 +16,33 @@ pub struct Draft {
 impl Draft {
     /// A file that says n and the up table and no more.
     pub fn of_tree(up: &[usize]) -> Draft {
-        let mut draft = Draft::default();
-        draft.record(1, &[up.len()]);
-        for &up in up {
-            draft.record(2, &[up]);
-        }
-        draft
+        let size = Draft::default().record(1, &[up.len()]);
+        up.iter().fold(size, |draft, &up| draft.record(2, &[up]))
     }
 
-    pub fn link(&mut self, (a, b): Link) {
-        self.record(3, &[a, b]);
-    }
-
-    pub fn close(&mut self) {
-        self.record(4, &[]);
-    }
-
-    pub fn report(&mut self) {
-        self.record(5, &[]);
+    /// Links that are not closed yet.
+    pub fn links(self, links: &[Link]) -> Draft {
+        links
+            .iter()
+            .fold(self, |draft, &(a, b)| draft.record(3, &[a, b]))
     }
 
     /// A whole batch: its links and its close.
-    pub fn batch(&mut self, links: &[Link]) {
-        for &link in links {
-            self.link(link);
-        }
-        self.close();
+    pub fn batch(self, links: &[Link]) -> Draft {
+        self.links(links).record(4, &[])
     }
 
-    fn record(&mut self, kind: u8, numbers: &[usize]) {
+    pub fn report(self) -> Draft {
+        self.record(5, &[])
+    }
+
+    fn record(mut self, kind: u8, numbers: &[usize]) -> Draft {
         self.records.push(self.bytes.len());
         self.bytes.push(kind);
         for &number in numbers {
             let number = u16::try_from(number).expect("numbers of a site file have 16 bits");
             self.bytes.extend(number.to_le_bytes());
         }
+        self
     }
 }

@@ -110,7 +110,7 @@ impl SiteFile {
 }
 
 /// Codes 3, 4 and 5, in this order.
-fn check_tree(up: &[usize]) -> Result<(), Refusal> {
+pub fn check_tree(up: &[usize]) -> Result<(), Refusal> {
     let n = up.len();
     if let Some(machine) = (0..n).find(|&v| up[v] >= n) {
         return refuse(3, machine);

@@ -6,7 +6,9 @@
 mod answer;
 mod chance;
 mod compare;
-mod damage;
+mod damaged_links;
+mod damaged_records;
+mod damaged_trees;
 mod draft;
 mod file;
 mod search;
@@ -16,13 +18,10 @@ mod stand_in;
 use std::io::{self, Read, Write};
 use std::process::ExitCode;
 
-use stand_in::Fault;
-
 const USAGE: &str = "\
 usage: takeout compare [--classes small,random,damaged,large] CMD [ARG..]
        takeout expect < SITE-FILE
-       takeout right < STREAM
-       takeout wrong swap-reasons|doubled-uplink|ten-for-twelve|later-links-lost < STREAM";
+       takeout wrong swap-reasons|doubled-uplink|ten-for-twelve < STREAM";
 
 fn main() -> ExitCode {
     let words: Vec<String> = std::env::args().skip(1).collect();
@@ -30,17 +29,16 @@ fn main() -> ExitCode {
     match words[..] {
         ["compare", "--classes", names, cmd, ref args @ ..] => {
             match compare::classes_named(names) {
-                Some(classes) => compare::compare(&classes, cmd, args),
+                Some(classes) => done(compare::compare(&classes, cmd, args)),
                 None => usage(),
             }
         }
         ["compare", cmd, ref args @ ..] if cmd != "--classes" => {
-            compare::compare(&compare::ALL, cmd, args)
+            done(compare::compare(&compare::ALL, cmd, args))
         }
         ["expect"] => done(expect()),
-        ["right"] => done(stand_in::serve(Fault::None)),
-        ["wrong", name] => match Fault::named(name) {
-            Some(fault) => done(stand_in::serve(fault)),
+        ["wrong", name] => match stand_in::named(name) {
+            Some(faulty) => done(stand_in::serve(faulty)),
             None => usage(),
         },
         _ => usage(),

@@ -1,33 +1,30 @@
 //! Good site files: every small site, and larger ones by chance.
 
-use std::ops::ControlFlow;
-
 use crate::chance::Chance;
 use crate::draft::{Draft, Visit};
-use crate::file::{Link, FILE_LIMIT, MACHINE_LIMIT};
+use crate::file::{check_tree, Link, FILE_LIMIT, MACHINE_LIMIT};
 
 /// Every site of up to 4 machines with each pair linked up to twice, whole and spread over two batches, and every site of 5
 /// machines with each pair linked at most once. The pairs that are uplinks are among the pairs.
-pub fn small(visit: Visit) -> ControlFlow<()> {
+pub fn small(visit: Visit) {
     let mut chance = Chance::seeded(1);
     for n in 1..=4 {
         let pairs = pairs(n);
         for up in trees(n) {
             for counts in tables(pairs.len(), 3) {
-                visit(&one_batch(&up, &pairs, &counts, &mut chance))?;
+                visit(&one_batch(&up, &pairs, &counts, &mut chance));
             }
             for shares in tables(pairs.len(), 4) {
-                visit(&two_batches(&up, &pairs, &shares, &mut chance))?;
+                visit(&two_batches(&up, &pairs, &shares, &mut chance));
             }
         }
     }
     let pairs = pairs(5);
     for up in trees(5) {
         for counts in tables(pairs.len(), 2) {
-            visit(&one_batch(&up, &pairs, &counts, &mut chance))?;
+            visit(&one_batch(&up, &pairs, &counts, &mut chance));
         }
     }
-    ControlFlow::Continue(())
 }
 
 /// A site with pair i linked `counts[i]` times, in one batch with a report after it.
@@ -36,10 +33,10 @@ fn one_batch(up: &[usize], pairs: &[Link], counts: &[usize], chance: &mut Chance
     for (&pair, &count) in pairs.iter().zip(counts) {
         links.extend(std::iter::repeat_n(pair, count));
     }
-    let mut draft = Draft::of_tree(up);
-    draft.batch(&mixed(links, chance));
-    draft.report();
-    draft.bytes
+    Draft::of_tree(up)
+        .batch(&mixed(links, chance))
+        .report()
+        .bytes
 }
 
 /// A site with pair i linked in no batch, the first, the second or both, as `shares[i]` is 0 to 3, with a report after each.
@@ -50,8 +47,7 @@ fn two_batches(up: &[usize], pairs: &[Link], shares: &[usize], chance: &mut Chan
             .filter(|&i| shares[i] & share != 0)
             .map(|i| pairs[i])
             .collect();
-        draft.batch(&mixed(links, chance));
-        draft.report();
+        draft = draft.batch(&mixed(links, chance)).report();
     }
     draft.bytes
 }
@@ -88,7 +84,7 @@ pub fn tables(length: usize, bound: usize) -> impl Iterator<Item = Vec<usize>> {
 
 /// Every up table of n machines that is a tree, with every machine as its hub.
 fn trees(n: usize) -> Vec<Vec<usize>> {
-    let trees: Vec<_> = tables(n, n).filter(|up| is_tree(up)).collect();
+    let trees: Vec<_> = tables(n, n).filter(|up| check_tree(up).is_ok()).collect();
     assert_eq!(
         trees.len(),
         n.pow(n as u32 - 1),
@@ -97,82 +93,69 @@ fn trees(n: usize) -> Vec<Vec<usize>> {
     trees
 }
 
-/// Whether one machine alone names itself and n steps lead there from everywhere.
-fn is_tree(up: &[usize]) -> bool {
-    let hubs = (0..up.len()).filter(|&v| up[v] == v).count();
-    let end = |machine: usize| (0..up.len()).fold(machine, |here, _| up[here]);
-    hubs == 1 && (0..up.len()).all(|machine| up[end(machine)] == end(machine))
-}
-
 /// Sites by chance of up to 100 machines, half of them of at most 12, where rings meet more often.
-pub fn random(visit: Visit) -> ControlFlow<()> {
+pub fn random(visit: Visit) {
     let mut chance = Chance::seeded(2);
     for _ in 0..1_500 {
         let n = chance.between(1, 12);
-        visit(&by_chance(n, &mut chance).bytes)?;
+        visit(&by_chance(n, &mut chance).bytes);
         let n = chance.between(1, 100);
-        visit(&by_chance(n, &mut chance).bytes)?;
+        visit(&by_chance(n, &mut chance).bytes);
     }
-    ControlFlow::Continue(())
 }
 
 /// Sites by chance of 101 to 300 machines, and a few of as many as a site has.
-pub fn large(visit: Visit) -> ControlFlow<()> {
+pub fn large(visit: Visit) {
     let mut chance = Chance::seeded(3);
     for _ in 0..60 {
         let n = chance.between(101, 300);
-        visit(&by_chance(n, &mut chance).bytes)?;
+        visit(&by_chance(n, &mut chance).bytes);
     }
-    for (shape, links) in [
-        (Shape::Path, 0),
-        (Shape::Path, 40),
-        (Shape::Star, 0),
-        (Shape::Star, 700),
-        (Shape::Caterpillar, 100),
-        (Shape::Any, 0),
-        (Shape::Any, 400),
-        (Shape::Near, 300),
-    ] {
-        visit(&full_site(shape, links, &mut chance).bytes)?;
+    let shapes = [
+        (PATH, 0),
+        (PATH, 40),
+        (STAR, 0),
+        (STAR, 700),
+        (CATERPILLAR, 100),
+        (ANY, 0),
+        (ANY, 400),
+        (NEAR, 300),
+    ];
+    for (shape, links) in shapes {
+        visit(&full_site(shape, links, &mut chance).bytes);
     }
     // A path from end to end in number order, the hub at its foot and at its head, and the link that makes it a ring.
-    let paths: [Vec<usize>; 2] = [
-        (0..MACHINE_LIMIT).map(|v| v.saturating_sub(1)).collect(),
-        (0..MACHINE_LIMIT)
-            .map(|v| (v + 1).min(MACHINE_LIMIT - 1))
-            .collect(),
-    ];
-    for up in paths {
-        let mut draft = Draft::of_tree(&up);
-        draft.report();
-        draft.batch(&[(0, MACHINE_LIMIT - 1)]);
-        draft.report();
-        visit(&draft.bytes)?;
+    let last = MACHINE_LIMIT - 1;
+    let downward = (0..MACHINE_LIMIT).map(|v| (v + 1).min(last)).collect();
+    for up in [path(MACHINE_LIMIT), downward] {
+        let tree = Draft::of_tree(&up).report();
+        visit(&tree.batch(&[(0, last)]).report().bytes);
     }
     // As many links as there is room for beside 4,096 machines, and not a byte left over.
-    let mut draft = full_site(Shape::Any, 818, &mut chance);
-    draft.report();
-    assert_eq!(draft.bytes.len(), FILE_LIMIT);
-    visit(&draft.bytes)
+    let full = full_site(ANY, 818, &mut chance).report().bytes;
+    assert_eq!(full.len(), FILE_LIMIT);
+    visit(&full);
+}
+
+/// A path of n machines in number order from the hub.
+pub fn path(n: usize) -> Vec<usize> {
+    (0..n).map(|v| v.saturating_sub(1)).collect()
 }
 
 /// A site of 4,096 machines with one batch of links by chance and one report.
 fn full_site(shape: Shape, links: usize, chance: &mut Chance) -> Draft {
     let up = tree(shape, MACHINE_LIMIT, chance);
-    let mut draft = Draft::of_tree(&up);
     let links: Vec<Link> = (0..links).map(|_| link(&up, chance)).collect();
-    draft.batch(&links);
-    draft.report();
-    draft
+    Draft::of_tree(&up).batch(&links).report()
 }
 
 /// A site of n machines by chance: a tree of some shape, up to five batches, and reports before, between and after them.
 pub fn by_chance(n: usize, chance: &mut Chance) -> Draft {
-    let shape = chance.pick(&Shape::ALL);
+    let shape = chance.pick(&SHAPES);
     let up = tree(shape, n, chance);
     let mut draft = Draft::of_tree(&up);
     if chance.once_in(3) {
-        draft.report();
+        draft = draft.report();
     }
     // Few links leave many chokes and many links leave few: take some sites of each sort.
     let most = chance.pick(&[2, 2 + n / 8, 2 + n / 2]);
@@ -180,6 +163,7 @@ pub fn by_chance(n: usize, chance: &mut Chance) -> Draft {
     for _ in 0..chance.below(6) {
         // At a single machine no link is sound, and its batches are empty.
         let count = if n == 1 { 0 } else { chance.below(most + 1) };
+        let before = so_far.len();
         for _ in 0..count {
             let again = !so_far.is_empty() && chance.once_in(10);
             let link = if again {
@@ -188,57 +172,38 @@ pub fn by_chance(n: usize, chance: &mut Chance) -> Draft {
                 link(&up, chance)
             };
             so_far.push(link);
-            draft.link(link);
         }
-        draft.close();
+        draft = draft.batch(&so_far[before..]);
         if !chance.once_in(3) {
-            draft.report();
+            draft = draft.report();
         }
     }
-    draft.report();
-    draft
+    draft.report()
 }
 
-#[derive(Clone, Copy)]
-enum Shape {
-    Path,
-    Star,
-    /// A path with legs.
-    Caterpillar,
-    /// A path with a star at its foot.
-    Broom,
-    /// Each machine below one of the latest few: deep, with short branches.
-    Near,
-    /// Each machine below any earlier one.
-    Any,
-}
+/// The up of machine v, which is not 0, among n machines, where the hub is 0.
+type Shape = fn(usize, usize, &mut Chance) -> usize;
 
-impl Shape {
-    const ALL: [Shape; 6] = [
-        Shape::Path,
-        Shape::Star,
-        Shape::Caterpillar,
-        Shape::Broom,
-        Shape::Near,
-        Shape::Any,
-    ];
-}
+const PATH: Shape = |v, _, _| v - 1;
+const STAR: Shape = |_, _, _| 0;
+/// A path with legs.
+const CATERPILLAR: Shape = |v, n, chance| match n.div_ceil(2) {
+    half if v < half => v - 1,
+    half => chance.below(half),
+};
+/// A path with a star at its foot.
+const BROOM: Shape = |v, n, _| (v - 1).min(n.div_ceil(2));
+/// Each machine below one of the latest few: deep, with short branches.
+const NEAR: Shape = |v, _, chance| v - chance.between(1, v.min(4));
+/// Each machine below any earlier one.
+const ANY: Shape = |v, _, chance| chance.below(v);
+const SHAPES: [Shape; 6] = [PATH, STAR, CATERPILLAR, BROOM, NEAR, ANY];
 
 /// An up table of n machines in the shape asked for. Half the time the numbers rise from the hub, otherwise they are shuffled.
 fn tree(shape: Shape, n: usize, chance: &mut Chance) -> Vec<usize> {
-    let half = n.div_ceil(2);
-    let mut rising = vec![0; n];
-    for (v, up) in rising.iter_mut().enumerate().skip(1) {
-        *up = match shape {
-            Shape::Path => v - 1,
-            Shape::Star => 0,
-            Shape::Caterpillar if v < half => v - 1,
-            Shape::Caterpillar => chance.below(half),
-            Shape::Broom => (v - 1).min(half),
-            Shape::Near => v - chance.between(1, v.min(4)),
-            Shape::Any => chance.below(v),
-        };
-    }
+    let rising: Vec<usize> = (0..n)
+        .map(|v| if v == 0 { 0 } else { shape(v, n, chance) })
+        .collect();
     let mut name: Vec<usize> = (0..n).collect();
     if chance.once_in(2) {
         chance.shuffle(&mut name);
