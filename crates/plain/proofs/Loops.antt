@@ -19,20 +19,16 @@ none-more p i none e = below-more (λ k. p k ≡ false) i none e
 some-is : (n : ℕ) (p : ℕ → Bool) → Says (some n p) ((k : ℕ) × (k < n) × (p k ≡ true))
 some-is n p = says-some n (λ k _. record { gives = λ e. e; takes = λ e. e })
 
+pub some-at : (n : ℕ) (p : ℕ → Bool) (i : ℕ) → i < n → p i ≡ true → true ≡ some n p
+some-at n p i h e = sym (some-is n p .takes (i, h, e))
+
+pub some-none : (n : ℕ) (p : ℕ → Bool) → NoneBelow p n → false ≡ some n p
+some-none n p none = sym (refutes (some-is n p) (λ (k, l, e). clash e (none k l)))
+
 count-more : (n : ℕ) (p : ℕ → Bool) → count (suc n) p ≡ count n p + cond (p n) 1 0
 unfolding count
 count-more zero p = omega arith
 count-more (suc n) p = omega (arith, count-more n (λ k. p (suc k)))
-
--- the test of number i answers r
-pub found : (n : ℕ) (p : ℕ → Bool) (i : ℕ) {r : Bool} → i < n → r ≡ p i → r ≡ true → true ≡ some n p
-found n p i h e f = sym (some-is n p .takes (i, h, sym e ∙ f))
-
-pub missed : (p : ℕ → Bool) (i : ℕ) {r : Bool} → NoneBelow p i → r ≡ p i → r ≡ false → NoneBelow p (i + 1)
-missed p i none e f = none-more p i none (sym e ∙ f)
-
-pub unfound : (n : ℕ) (p : ℕ → Bool) (i : ℕ) → NoneBelow p i → n ≤ i → false ≡ some n p
-unfound n p i none h = sym (refutes (some-is n p) (λ (k, l, e). clash e (none k (omega arith))))
 
 -- k of the numbers below i pass
 pub record Counted (n : ℕ) (p : ℕ → Bool) (i k : ℕ) : Type 0 where

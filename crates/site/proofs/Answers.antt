@@ -1,71 +1,102 @@
--- How a call's answer follows its checks: the first that refuses is the answer, and what was lent is as it came; once all have passed, it is done.
+-- How a call's answer follows its checks: one that refuses is the answer, and what was lent is as it came; where all have passed, it is done.
 use mathlib.Core.Path.{_≡_, refl, sym, ap, _∙_}
-use mathlib.Core.List.{List, [], _∷_}
-use Prim.Native.Nat.{ℕ}
-use borrow.Author.Tests.{eqb-true}
-use Rattle.plain.proofs.Says.{says-and, says-lt, says-le}
-use Rattle.tables.specs.Verdict.{Verdict, Sound, checks}
-use Rattle.tables.specs.Tree.{mostMachines, sizeVerdict, treeVerdict}
-use Rattle.tables.specs.Tables.{Tables}
-use Rattle.tables.specs.Rules.{rulesVerdict}
-use Rattle.tables.specs.Outcome.{answer}
-use Rattle.tables.proofs.Verdicts.{passes, refuses, checks-one, all-sound, unless-sound}
+use mathlib.Core.List.{List, [], _++_}
+use Prim.Native.Nat.{ℕ, _≤_}
+use native.Mathlib.Omega.{arith}
+use lib.ListN.{length, replicate, take, length-append}
+use lib.Seq.{take-at}
+use Rattle.plain.specs.Table.{tabulate, total}
+use Rattle.tables.specs.Verdict.{Verdict}
+use Rattle.tables.specs.Tree.{hub, treeVerdict}
+use Rattle.tables.specs.Tables.{Tables, fresh}
+use Rattle.tables.specs.Batch.{pairs, after, rise}
+use Rattle.tables.specs.Report.{groupCarried, stuck, split, lone, machineByte, linkByte, machineBytes, linkBytes}
+use Rattle.tables.specs.Outcome.{answer, named, startVerdict, startOf, addVerdict, addOf, reportVerdict, reportOf}
 use Rattle.tables.proofs.Sound.{sound-tree}
-use Rattle.site.specs.Lent.{outcome}
+use Rattle.tables.proofs.Histories as histories
+use Rattle.tables.proofs.Rise.{rise-is}
+use Rattle.site.specs.Lent.{tablesOf, bytesOf, outcome}
 use Rattle.site.specs.Check.{codeOf, placeOf, verdictOf}
-use Rattle.site.specs.Checked.{sizesVerdict, tablesVerdict, Sizes, Lengths}
-use Rattle.site.specs.RulesCheck.{Sized}
+use Rattle.site.specs.Checked.{sizesVerdict, Sizes, Lengths}
+use Rattle.site.specs.TreeCheck.{Reached}
+use Rattle.site.specs.RingStep.{Ready, Applied}
+use Rattle.site.specs.ReportFill.{linkByteAt, ReportSized, ReportFilled}
 use Rattle.site.specs.declared.Check.{Check}
 use Rattle.site.specs.declared.Check.the-variants as check
 use Rattle.site.specs.declared.Fault.{Fault}
+use Rattle.site.proofs.Checking.{told, sizes-passed, add-passed, report-passed}
 
--- the verdict that a check's answer tells
-pub told : {c d : Check} {v : Verdict} → c ≡ d → verdictOf c ≡ v → v ≡ verdictOf d
-told e q = sym q ∙ ap verdictOf e
-
-module _ {A : Type 0} (came : A) (value : ℕ) (done : A) where
-  pub answer-refused : {c : Check} {why : Fault} {place rc rv : ℕ} (v : Verdict) (vs : List Verdict) → c ≡ check.Refused why place → verdictOf c ≡ v
-      → (rc ≡ codeOf c) × (rv ≡ placeOf c) → outcome rc rv came ≡ answer (checks (v ∷ vs)) came value done
+module _ {A : Type 0} (came : A) (value : ℕ) (done : A) {c : Check} {v : Verdict} where
+  pub refused : {why : Fault} {place rc rv : ℕ} → c ≡ check.Refused why place → verdictOf c ≡ v → (rc ≡ codeOf c) × (rv ≡ placeOf c)
+      → outcome rc rv came ≡ answer v came value done
   unfolding answer
-  answer-refused v vs e q r = rw (r .0, r .1, refuses (told e q) vs, told e q, e) refl
+  refused e q r = rw (r .0, r .1, told e q, e) refl
 
-  pub answer-passed : {c : Check} (v : Verdict) (vs : List Verdict) → c ≡ check.Sound → verdictOf c ≡ v
-      → answer (checks vs) came value done ≡ answer (checks (v ∷ vs)) came value done
-  answer-passed v vs e q = ap (λ v. answer v came value done) (sym (passes (told e q) vs))
+  accepted : c ≡ check.Sound → verdictOf c ≡ v → outcome 0 value done ≡ answer v came value done
+  unfolding answer
+  accepted e q = rw (told e q) refl
 
-  pub answer-done : outcome 0 value done ≡ answer (checks []) came value done
-  unfolding answer checks
-  answer-done = refl
+-- a front part e of n entries that has come back to its whole
+pub front-le : (n : ℕ) (e r : List ℕ) → length e ≡ n → n ≤ length (e ++ r)
+front-le n e r q = omega (arith, length-append e r)
 
-pub sizes-of : (n depth group mark : ℕ) → sizesVerdict n depth group mark ≡ Sound → Sizes n depth group mark
-unfolding sizesVerdict sizeVerdict
-sizes-of n depth group mark e =
-    let a = all-sound _ e in
-    let some-few = says-and (says-lt 0 n) (says-le n mostMachines) .gives (unless-sound _ _ _ (a .0)) in
-    record {
-      some = some-few .0;
-      few = some-few .1;
-      depth-size = eqb-true _ _ (unless-sound _ _ _ (a .1 .0));
-      group-size = eqb-true _ _ (unless-sound _ _ _ (a .1 .1 .0));
-      mark-size = eqb-true _ _ (unless-sound _ _ _ (a .1 .1 .1 .0));
-    }
+pub front-size : (n : ℕ) (e r : List ℕ) → length e ≡ n → n ≡ length (take n (e ++ r))
+front-size n e r q = sym (ap length (take-at e r n q) ∙ q)
 
--- what the tree check leaves to the rules, and how the two join
-module _ (up : List ℕ) {c : Check} (q : verdictOf c ≡ treeVerdict up) where
-  pub tables-refused : {why : Fault} {place : ℕ} (t : Tables) → c ≡ check.Refused why place → verdictOf c ≡ tablesVerdict up t
-  unfolding tablesVerdict
-  tables-refused t e = q ∙ sym (refuses (told e q) _)
+pub front-copy : {n depth : ℕ} {c : Check} (e r : List ℕ) (group mark : ℕ) → c ≡ check.Sound → verdictOf c ≡ sizesVerdict n depth group mark → length e ≡ n
+    → depth ≡ length (take n (e ++ r))
+front-copy {n} {depth} e r group mark p q h = let l : Sizes n depth group mark = sizes-passed p q in l .depth-size ∙ front-size n e r h
 
-  pub tables-sized : {depth group mark : List ℕ} {top : ℕ} → c ≡ check.Sound → Lengths up depth group mark → top ≡ Rattle.tables.specs.Tree.hub up
-      → Sized up depth group mark top
-  tables-sized e l h = record {
-    depth-size = l .depth-size;
-    group-size = l .group-size;
-    mark-size = l .mark-size;
-    inside = sound-tree up (told e q) .inside;
-    top = h;
-  }
+module _ (up depth group mark : List ℕ) {c : Check} (e : c ≡ check.Sound) where
+  abbrev t : Tables
+  t = tablesOf depth group mark
 
-  pub tables-checked : {v : Verdict} (t : Tables) → c ≡ check.Sound → v ≡ rulesVerdict up t → v ≡ tablesVerdict up t
-  unfolding tablesVerdict
-  tables-checked t e p = p ∙ sym (checks-one _) ∙ sym (passes (told e q) _)
+  pub start-done : {known depth′ group′ mark′ : List ℕ} (rest : List ℕ) → verdictOf c ≡ startVerdict up t → Lengths up depth group mark → Reached (treeVerdict up) up known c
+      → depth′ ≡ take (length up) (known ++ rest) → group′ ≡ tabulate (length group) (λ v. v) → mark′ ≡ replicate (length mark) 0
+      → outcome 0 (length up) (tablesOf depth′ group′ mark′) ≡ startOf up t
+  unfolding startOf fresh
+  start-done {known} rest q l k a b g =
+      rw (a, take-at known rest (length up) (k .size), k .depths e, b, g, l .group-size, l .mark-size) (accepted t (length up) (fresh up) e q)
+
+  module _ (batch : List ℕ) (q : verdictOf c ≡ addVerdict up batch t) where
+    -- the depths are right, so the ring step may climb by them
+    pub add-ready : Ready up depth group mark batch
+    add-ready =
+        let (p, b) = add-passed up t batch (told e q) in
+        let s = sound-tree up (p .lived .tree) in
+        record {
+          few = p .sizes .few;
+          tree = s;
+          depths = ap (λ u. u .depth) (sym (p .left)) ∙ histories.told s (p .history) (p .lived .batches) .depths;
+          group-size = p .sizes .group-size;
+          mark-size = p .sizes .mark-size;
+          batch = b;
+        }
+
+    pub add-done : {group′ mark′ : List ℕ} {r : ℕ} → Applied up depth group mark batch group′ mark′ r → outcome 0 r (tablesOf depth group′ mark′) ≡ addOf up batch t
+    unfolding addOf
+    add-done {mark′ = mark′} {r} a =
+        let t′ = after up (pairs batch) t in
+        let m : total mark′ ≡ total (t′ .mark) = ap (λ u. total (u .mark)) (a .tables) in
+        let v : r ≡ rise t t′ = omega (arith, a .rise, rise-is up (pairs batch) t (add-ready .mark-size)) in
+        rw (v, a .tables) (accepted t (rise t t′) t′ e q)
+
+  module _ (machines links : List ℕ) (q : verdictOf c ≡ reportVerdict up t (bytesOf machines links)) where
+    pub report-ready : {top : ℕ} → top ≡ hub up → ReportSized up group mark top machines links
+    report-ready h =
+        let (p, m, l) = report-passed up t (bytesOf machines links) (told e q) in
+        record { read = record { group-size = p .sizes .group-size; mark-size = p .sizes .mark-size; top = h }; machines-size = m; links-size = l }
+
+    -- the depths are not read
+    pub report-done : {machines′ links′ : List ℕ} {r : ℕ} → ReportFilled up (tablesOf [] group mark) machines′ links′ r
+        → outcome 0 r (bytesOf machines′ links′) ≡ reportOf up t (bytesOf machines links)
+    unfolding reportOf machineBytes machineByte stuck groupCarried split lone linkBytes linkByte
+    report-done a =
+        rw (a .counted, a .machines-are, a .links-are) (accepted (bytesOf machines links) (named (machineBytes up t)) (bytesOf (machineBytes up t) (linkBytes up t)) e q)
+
+-- both outputs by their rules, and the count of the first
+pub filled : {up group mark machines links machines′ links′ : List ℕ} {h r : ℕ} → ReportSized up group mark h machines links
+    → machines′ ≡ machineBytes up (tablesOf [] group mark) → links′ ≡ tabulate (length links) (linkByteAt h mark) → r ≡ named machines′
+    → ReportFilled up (tablesOf [] group mark) machines′ links′ r
+unfolding linkBytes linkByte
+filled s m l n = record { machines-are = m; links-are = l ∙ rw (s .links-size, s .read .top); counted = n ∙ ap named m }

@@ -83,15 +83,13 @@ module _ {up depth group₀ mark₀ batch : List ℕ} (r : Ready up depth group�
     pub few-links : i ≤ mostLinks
     few-links = omega (arith, p .far, even .1)
 
-    pub bound : rise ≤ 4 * mostMachines * mostLinks
-    bound = omega (arith, p .small, few-links)
+    pub bound : {group′ mark′ : List ℕ} {a b s : ℕ} → Links up group mark group′ mark′ a b s → rise + s ≤ 4 * mostMachines * (mostLinks + 1)
+    bound k = omega (arith, p .small, few-links, k .small, r .few)
 
     pub end : length batch ≤ 2 * i → Applied up depth group₀ mark₀ batch group mark rise
     end h = record {
       tables = p .tables ∙ after-all up (pairs batch) i _ (omega (arith, in-pairs));
       rise = omega (arith, p .sum);
-      group-size = p .group-size;
-      mark-size = p .mark-size;
     }
 
     module _ (h : 2 * i < length batch) where
@@ -115,10 +113,10 @@ module _ {up depth group₀ mark₀ batch : List ℕ} (r : Ready up depth group�
               mark-size = p .mark-size;
             }
 
-        pub next : {group′ mark′ : List ℕ} {s : ℕ} → length group′ ≡ length group → length mark′ ≡ length mark
-            → Links up group mark group′ mark′ a b s → Applying up depth group₀ mark₀ batch group′ mark′ (rise + s) (i + 1)
+        pub next : {group′ mark′ : List ℕ} {s : ℕ} → Links up group mark group′ mark′ a b s → length group′ ≡ length group → length mark′ ≡ length mark
+            → Applying up depth group₀ mark₀ batch group′ mark′ (rise + s) (i + 1)
         unfolding linked
-        next eg em k = let m = after-more up (pairs batch) i (record { depth = depth; group = group₀; mark = mark₀ }) (omega (arith, in-pairs)) in record {
+        next k eg em = let m = after-more up (pairs batch) i (record { depth = depth; group = group₀; mark = mark₀ }) (omega (arith, in-pairs)) in record {
           far = omega (arith, second);
           group-size = eg ∙ p .group-size;
           mark-size = em ∙ p .mark-size;

@@ -11,6 +11,12 @@ use lib.Dec.{leb, eqb}
 use Rattle.plain.specs.Table.{at}
 use Rattle.tables.specs.Batch.{mostLinks, pairs, lengthVerdict, endsVerdict, batchVerdict}
 use Rattle.tables.specs.Verdict.{Verdict, Sound, Refused, checks}
+use Rattle.tables.proofs.Verdicts.{passes, checks-one}
+use Rattle.site.specs.Check.{verdictOf}
+use Rattle.site.specs.declared.Check.{Check}
+use Rattle.site.specs.declared.Check.the-variants as check
+use Rattle.site.specs.declared.Fault.{Fault}
+use Rattle.site.proofs.Checking.{told, stops}
 
 link-then : (n i : ℕ) (p : ℕ × ℕ) (l : List (ℕ × ℕ)) → endsVerdict n i (p ∷ l) ≡ checks (endsVerdict n i (p ∷ []) ∷ endsVerdict n (suc i) l ∷ [])
 unfolding endsVerdict checks
@@ -21,11 +27,6 @@ link-then n i p l = go (leb n (p .0) || leb n (p .1)) (eqb (p .0) (p .1)) (endsV
     go false true rest = refl
     go false false Sound = refl
     go false false (Refused c v) = refl
-
-last : (v : Verdict) → checks (v ∷ []) ≡ v
-unfolding checks
-last Sound = refl
-last (Refused c v) = refl
 
 -- the links before i pass
 pub record Passed (n : ℕ) (batch : List ℕ) (i : ℕ) : Type 0 where
@@ -50,16 +51,14 @@ module _ {n : ℕ} {batch : List ℕ} {i : ℕ} (p : Passed n batch i) where
       let d : drop (2 * i) batch ≡ at batch (2 * i) ∷ at batch (2 * i + 1) ∷ drop (2 * (i + 1)) batch = rw (drop-cons batch (2 * i) 0 (omega arith), e, drop-cons batch (2 * i + 1) 0 h, f) in
       p .rest ∙ rw (d, add-one i) (link-then n i _ _)
 
-  module _ {a b : ℕ} {v : Verdict} (h : 2 * i + 1 < length batch) (e : a ≡ at batch (2 * i)) (f : b ≡ at batch (2 * i + 1)) (g : v ≡ endsVerdict n i ((a, b) ∷ [])) where
+  module _ {a b : ℕ} {c : Check} (h : 2 * i + 1 < length batch) (e : a ≡ at batch (2 * i)) (f : b ≡ at batch (2 * i + 1)) (g : verdictOf c ≡ endsVerdict n i ((a, b) ∷ [])) where
     -- link i passes
-    pub passed-more : v ≡ Sound → Passed n batch (i + 1)
-    unfolding checks
-    passed-more s = record { low = omega arith; rest = link-next h ∙ rw (← e, ← f, ← g, s) (last _) }
+    pub passed-more : c ≡ check.Sound → Passed n batch (i + 1)
+    passed-more s = record { low = omega arith; rest = link-next h ∙ rw (← e, ← f) (passes (told s g) _ ∙ checks-one _) }
 
     -- link i is refused
-    pub refused : {code place : ℕ} → v ≡ Refused code place → v ≡ endsVerdict n 0 (pairs batch)
-    unfolding checks
-    refused s = sym (link-next h ∙ rw (← e, ← f, ← g, s))
+    pub refused : {why : Fault} {place : ℕ} → c ≡ check.Refused why place → verdictOf c ≡ endsVerdict n 0 (pairs batch)
+    refused s = rw (link-next h, ← e, ← f) (stops g _ s)
 
   pub passed-all : length batch ≤ 2 * i + 1 → Sound ≡ endsVerdict n 0 (pairs batch)
   unfolding endsVerdict
@@ -72,4 +71,4 @@ module _ (n : ℕ) (batch : List ℕ) {fits : Bool} (e : fits ≡ (eqb (length b
 
   pub by-ends : {v : Verdict} → fits ≡ true → v ≡ endsVerdict n 0 (pairs batch) → v ≡ batchVerdict n batch
   unfolding batchVerdict lengthVerdict checks
-  by-ends f g = g ∙ rw (← e, f) (sym (last _))
+  by-ends f g = g ∙ rw (← e, f) (sym (checks-one _))

@@ -6,20 +6,19 @@ use mathlib.Core.List.{List, []}
 use mathlib.Core.Logic.{_≢_}
 use Prim.Native.Nat.{ℕ}
 use lib.ListN.{length}
-use borrow.Author.Tests.{eqb-true}
 use Rattle.tables.specs.Verdict.{Verdict, Sound, Refused, checks}
 use Rattle.tables.specs.Tables.{Tables, fresh, tableSizes}
 use Rattle.tables.specs.Batch.{pairs, batchVerdict, after, rise}
-use Rattle.tables.specs.History.{History, Lived, leaves, tables}
+use Rattle.tables.specs.History.{Lived, leaves, tables}
 use Rattle.tables.specs.Report.{machineBytes, linkBytes}
 use Rattle.tables.specs.Outcome.{Answer, answer, Bytes, named, startVerdict, startOf, addVerdict, addOf, reportVerdict, reportOf}
 use Rattle.tables.specs.Demand2.{Reported}
-use Rattle.tables.proofs.Verdicts.{all-sound, sound-all, unless-sound}
+use Rattle.tables.proofs.Verdicts.{all-sound}
 use Rattle.tables.proofs.Codes.{Numbered, start-numbered, add-numbered, report-numbered}
 use Rattle.graph.proofs.Members.{empty}
-use Rattle.tables.proofs.Demand1.{rules-exact}
 use Rattle.tables.proofs.Demand2.{demand2}
 use Rattle.site.specs.Lent.{outcome}
+use Rattle.site.proofs.Checking.{Passed, add-passed, report-passed}
 
 -- two outcomes that a promise allows coincide
 module _ {A : Type 0} {c v c′ v′ : ℕ} {l l′ : A} (a : Answer A) where
@@ -66,50 +65,33 @@ start-done up t e =
 
 -- Add done: from the tables of a history to those of the history with one batch more
 pub record Added (up batch : List ℕ) (t t′ : Tables) (value : ℕ) : Type 0 where
-  pub history : History
-  pub lived : Lived up history
-  pub before : tables up history ≡ t
+  pub before : Passed up t
   pub accepted : batchVerdict (length up) batch ≡ Sound
   pub after-batch : t′ ≡ after up (pairs batch) t
   pub rose : value ≡ rise t t′
 
 pub add-done : {value : ℕ} {t′ : Tables} (up batch : List ℕ) (t : Tables) → outcome 0 value t′ ≡ addOf up batch t → Added up batch t t′ value
-unfolding addOf addVerdict
+unfolding addOf
 add-done up batch t e =
     let u = after up (pairs batch) t in
     let (s, v, l) = answer-sound t (rise t u) u (addVerdict up batch t) (add-numbered up batch t) e refl in
-    let a = all-sound _ s in
-    let (h, k, q) = rules-exact up t (a .1 .1 .0) (a .1 .0) .0 (a .1 .1 .1 .0) in
-    record {
-      history = h;
-      lived = record { size = a .0; tree = a .1 .1 .0; batches = k };
-      before = q;
-      accepted = a .1 .1 .1 .1 .0;
-      after-batch = l;
-      rose = v ∙ ap (rise t) (sym l);
-    }
+    let (p, b) = add-passed up t batch s in
+    record { before = p; accepted = b; after-batch = l; rose = v ∙ ap (rise t) (sym l) }
 
 -- Report done: it names the chokes of a history
 pub record Reporting (up : List ℕ) (t : Tables) (o : Bytes) (value : ℕ) : Type 0 where
-  pub history : History
-  pub lived : Lived up history
-  pub before : tables up history ≡ t
+  pub before : Passed up t
   pub counted : value ≡ named (o .machines)
-  pub reported : Reported up history (outcome 0 value o)
+  pub reported : Reported up (before .history) (outcome 0 value o)
 
 pub report-done : {value : ℕ} {o′ : Bytes} (up : List ℕ) (t : Tables) (o : Bytes) → outcome 0 value o′ ≡ reportOf up t o → Reporting up t o′ value
-unfolding reportOf reportVerdict tableSizes
-report-done {value} {o′} up t o e =
+unfolding reportOf
+report-done up t o e =
     let filled : Bytes = record { machines = machineBytes up t; links = linkBytes up t } in
     let (s, v, l) = answer-sound o (named (machineBytes up t)) filled (reportVerdict up t o) (report-numbered up t o) e refl in
-    let a = all-sound _ s in
-    let b = all-sound _ (a .1 .0) in
-    let (h, k, q) = rules-exact up t (a .1 .1 .0) (sound-all (tableSizes up t) (b .0, (b .1 .0, (b .1 .1 .0, tt)))) .0 (a .1 .1 .1 .0) in
-    let lives : Lived up h = record { size = a .0; tree = a .1 .1 .0; batches = k } in
-    let one = eqb-true _ _ (unless-sound _ _ _ (b .1 .1 .1 .0)) in
-    let two = eqb-true _ _ (unless-sound _ _ _ (b .1 .1 .1 .1 .0)) in
-    let r : Reported up h (reportOf up t o) = subst (λ u. Reported up h (reportOf up u o)) q (demand2 .reports up h lives o one two) in
-    record { history = h; lived = lives; before = q; counted = v ∙ ap (λ x. named (x .machines)) (sym l); reported = rw e r }
+    let (p, m, k) = report-passed up t o s in
+    let r : Reported up (p .history) (reportOf up t o) = subst (λ u. Reported up (p .history) (reportOf up u o)) (p .left) (demand2 .reports up (p .history) (p .lived) o m k) in
+    record { before = p; counted = v ∙ ap (λ x. named (x .machines)) (sym l); reported = rw e r }
 
 -- a refusal: the first check that refused, and what was lent as it came
 pub start-refused : {c value : ℕ} {t′ : Tables} (up : List ℕ) (t : Tables) → c ≢ 0 → outcome c value t′ ≡ startOf up t → (startVerdict up t ≡ Refused c value) × (t′ ≡ t)

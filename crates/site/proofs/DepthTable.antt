@@ -18,9 +18,10 @@ use Rattle.plain.proofs.Tabulate.{tabulated}
 use Rattle.tables.specs.Tree.{climb, hub, depthOf}
 use Rattle.tables.proofs.Climb.{climb-add}
 use Rattle.tables.proofs.Verdicts.{refuse-at, refuse-none, not-both}
+use Rattle.site.specs.Check.{verdictOf}
 use Rattle.site.specs.declared.Check.the-variants as check
 use Rattle.site.specs.declared.Fault.the-variants as fault
-use Rattle.site.specs.TreeCheck.{unknown, Known, Blank, Depth, Held, Climbing, Climbed, Stopped, Laying, Laid, Ready, Reached}
+use Rattle.site.specs.TreeCheck.{reachVerdict, unknown, Known, Blank, Depth, Held, Climbing, Climbed, Stopped, Laying, Laid, Ready, Reached}
 use Rattle.site.proofs.Depths.{hub-depth, depth-here, deep, uplink-depth, climb-depth}
 
 -- a depth is stored: what was known, or stands at the place, is known
@@ -101,7 +102,7 @@ pub record Reaching (up known : List ℕ) (v : ℕ) : Type 0 where
 
 pub reach-start : {up known₀ known : List ℕ} {h : ℕ} → Ready up known₀ → Blank known₀ known → h ≡ hub up → Reaching up (set known h 0) 0
 reach-start {up} {known₀} {known} {h} g b e =
-    let size : length known ≡ length up = b .size ∙ g .size in
+    let size : length known ≡ length up = b .size ∙ g .room .size in
     let inside : h < length known = omega (arith, g .hub-in) in
     record {
       le = omega arith;
@@ -111,7 +112,7 @@ reach-start {up} {known₀} {known} {h} g b e =
             (λ (q : x ≡ h). rw (q, getD-set-same known h 0 0 inside, e) (hub-depth up (g .hub-in)))
             (λ (o : x ≢ h).
             let f : at (set known h 0) x ≡ at known x = getD-set-other known h x 0 0 o in
-            absurd (omega (arith, b .none x (omega (arith, g .size)))));
+            absurd (omega (arith, b .none x (omega (arith, g .room .size)))));
         top = rw (← e, getD-set-same known h 0 0 inside) (omega arith);
       };
       done = λ y l. absurd (omega arith);
@@ -140,7 +141,7 @@ module _ {up known₀ known : List ℕ} {v : ℕ} (g : Ready up known₀) (r : R
 
   pub reach-lay : {k x : ℕ} → v < length up → k < length up → Stopped up known v k x → Laying up known v (k + at known x)
   reach-lay {k} {x} h b s = record {
-    few = g .few;
+    few = g .room .few;
     inside = g .inside;
     machine = h;
     held = r .held;
@@ -148,16 +149,16 @@ module _ {up known₀ known : List ℕ} {v : ℕ} (g : Ready up known₀) (r : R
         (rw (← s .way .from) (r .held .depth x (s .way .machine) (s .here b)));
   }
 
-  pub reach-stray : {k x : ℕ} → v < length up → length up ≤ k → Stopped up known v k x → Reached up known (check.Refused fault.Stray v)
+  pub reach-stray : {k x : ℕ} → v < length up → length up ≤ k → Stopped up known v k x → Reached (reachVerdict up) up known (check.Refused fault.Stray v)
   reach-stray {k} {x} h b s = record {
     verdict = sym (refuse-at 5 (length up) (λ v. leb (length up) (depthOf up v)) v h reached (by-cases (leb (length up) (depthOf up v)) (λ e. e) λ e.
         let l = leb-false (length up) (depthOf up v) e in
         absurd (not-yet (s .way) (depthOf up v) (omega arith) (depth-here (record { right = refl; reaches = l })))));
     size = r .held .size;
-    depths = not-both refl;
+    depths = λ e. not-both refl (ap verdictOf e);
   }
 
-  pub reach-end : length up ≤ v → Reached up known check.Sound
+  pub reach-end : length up ≤ v → Reached (reachVerdict up) up known check.Sound
   reach-end h = record {
     verdict = sym (refuse-none 5 (length up) (λ v. leb (length up) (depthOf up v)) (λ k b. reached k (omega arith)));
     size = r .held .size;

@@ -54,10 +54,14 @@ module _ {up depth group mark : List ℕ} {a b w : ℕ} (l : Linkable up depth g
   pub climb-right : {mark₁ : List ℕ} → length mark₁ ≡ length mark → Climbs up mark₁ b w
   climb-right e = record { few = l .few; tree = l .ends .tree; size = e ∙ l .mark-size; one = l .ends .two; above = meeting .1 }
 
-  module _ {mark₁ mark₂ : List ℕ} {c d r t : ℕ} (f : Raises up mark mark₁ a w c r) (g : Raises up mark₁ mark₂ b w d t) where
-    pub tops-in : (c < length group) × (d < length group)
-    tops-in = rw (l .group-size) (top-in (l .ends .tree) (l .ends .one) (meeting .0) (f .tops), top-in (l .ends .tree) (l .ends .two) (meeting .1) (g .tops))
+  -- and they end at machines
+  pub left-in : {mark₁ : List ℕ} {c r : ℕ} → Raises up mark mark₁ a w c r → c < length group
+  left-in f = rw (l .group-size) (top-in (l .ends .tree) (l .ends .one) (meeting .0) (f .tops))
 
+  pub right-in : {mark₁ mark₂ : List ℕ} {d t : ℕ} → Raises up mark₁ mark₂ b w d t → d < length group
+  right-in g = rw (l .group-size) (top-in (l .ends .tree) (l .ends .two) (meeting .1) (g .tops))
+
+  module _ {mark₁ mark₂ : List ℕ} {c d r t : ℕ} (f : Raises up mark mark₁ a w c r) (g : Raises up mark₁ mark₂ b w d t) where
     -- the groups that the climbs' ends have joined are those of the children of w
     groups : joinedBelow w c d group ≡ grouped up a b group
     unfolding grouped
@@ -72,11 +76,12 @@ module _ {up depth group mark : List ℕ} {a b w : ℕ} (l : Linkable up depth g
         ))))
 
     -- what both climbs asked is what the link asks
-    marks : length mark₂ ≡ length mark → mark₂ ≡ raised up a b mark
+    marks : length mark₂ ≡ length up → mark₂ ≡ raised up a b mark
     unfolding raised
-    marks e = tabulated mark₂ (length up) (λ x. max (at mark x) (due up a b x)) (e ∙ l .mark-size) (λ x h.
+    marks e = tabulated mark₂ (length up) (λ x. max (at mark x) (due up a b x)) e (λ x h.
         let k : due up a b x ≡ max (want up a w x) (want up b w x) = rw q (due-arms (l .ends .tree) (l .ends .one) (l .ends .two) x h) in
         omega (arith, f .marks x, g .marks x))
 
-    pub linked-by : {group′ : List ℕ} → length mark₂ ≡ length mark → group′ ≡ joinedBelow w c d group → Links up group mark group′ mark₂ a b (r + t)
-    linked-by e j = record { groups = j ∙ groups; marks = marks e; sum = omega (arith, f .sum, g .sum); small = omega (arith, f .small, g .small) }
+    pub linked-by : {group′ : List ℕ} → length mark₁ ≡ length mark → length mark₂ ≡ length mark₁ → group′ ≡ joinedBelow w c d group
+        → Links up group mark group′ mark₂ a b (r + t)
+    linked-by e k j = record { groups = j ∙ groups; marks = marks (k ∙ e ∙ l .mark-size); sum = omega (arith, f .sum, g .sum); small = omega (arith, f .small, g .small) }

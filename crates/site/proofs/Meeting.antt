@@ -47,16 +47,26 @@ module _ {up depth : List ℕ} {a b : ℕ} (e : Ends up depth a b) where
       let r = uplinked h (λ q. o (at-hub (m .left) q)) in
       (record { left = rest r o (m .left); right = m .right; lowest = λ z u v. m .lowest z (step r u) v }, rooted (e .tree) .falls r)
 
-  module _ {x y dx dy : ℕ} (i : Nearing up a b x y) (ex : dx ≡ at depth x) (ey : dy ≡ at depth y) where
-    pub next-left : {x′ : ℕ} → dy ≤ dx → x ≢ y → x′ ≡ at up x → Nearing up a b x′ y × (depthOf up x′ + depthOf up y < depthOf up x + depthOf up y)
-    next-left d n q =
-        let k = lift (i .left) (i .ahead) (omega (arith, depth-at x (i .left), depth-at y (i .right))) n in
-        rw q (record { left = e .tree .inside x (i .left); right = i .right; ahead = k .0 }, omega (arith, k .1))
+  module _ {x y dx dy : ℕ} (i : Nearing up a b x y) where
+    module _ {x′ : ℕ} (ex : dx ≡ at depth x) (ey : dy ≡ at depth y) (n : x ≢ y) (d : dy ≤ dx) (q : x′ ≡ at up x) where
+      left : Lowest (treeOf up) (at up x) y (meet up a b) × (depthOf up (at up x) < depthOf up x)
+      left = lift (i .left) (i .ahead) (omega (arith, depth-at x (i .left), depth-at y (i .right))) n
 
-    pub next-right : {y′ : ℕ} → dx < dy → x ≢ y → y′ ≡ at up y → Nearing up a b x y′ × (depthOf up x + depthOf up y′ < depthOf up x + depthOf up y)
-    next-right d n q =
-        let k = lift (i .right) (turn (i .ahead)) (omega (arith, depth-at x (i .left), depth-at y (i .right))) (λ r. n (sym r)) in
-        rw q (record { left = i .left; right = e .tree .inside y (i .right); ahead = turn (k .0) }, omega (arith, k .1))
+      pub next-left : Nearing up a b x′ y
+      next-left = rw q (record { left = e .tree .inside x (i .left); right = i .right; ahead = left .0 })
+
+      pub less-left : depthOf up x′ + depthOf up y < depthOf up x + depthOf up y
+      less-left = rw q (omega (arith, left .1))
+
+    module _ {y′ : ℕ} (ey : dy ≡ at depth y) (ex : dx ≡ at depth x) (n : x ≢ y) (d : dx < dy) (q : y′ ≡ at up y) where
+      right : Lowest (treeOf up) (at up y) x (meet up a b) × (depthOf up (at up y) < depthOf up y)
+      right = lift (i .right) (turn (i .ahead)) (omega (arith, depth-at x (i .left), depth-at y (i .right))) (λ r. n (sym r))
+
+      pub next-right : Nearing up a b x y′
+      next-right = rw q (record { left = i .left; right = e .tree .inside y (i .right); ahead = turn (right .0) })
+
+      pub less-right : depthOf up x + depthOf up y′ < depthOf up x + depthOf up y
+      less-right = rw q (omega (arith, right .1))
 
   pub end : {x y : ℕ} → Nearing up a b x y → x ≡ y → x ≡ meet up a b
   end {x} i q = antisym (rooted (e .tree)) (i .ahead .left) (i .ahead .lowest x stay (rw q stay))

@@ -1,85 +1,73 @@
--- The three parts of a tree's verdict: the search for an entry that is no machine, and how the parts join, each in its turn.
-use mathlib.Core.Path.{_≡_, refl, sym, ap, _∙_}
-use mathlib.Core.List.{List, [], _∷_}
+-- The three parts of a tree's verdict. Two searches tell of the hubs: the first finds the hub, the second, behind it, the next one or none. Entries that
+-- are machines and one hub are what the reach check asks; and the verdict is that of the first part that refuses.
+use mathlib.Core.Path.{_≡_, refl, ap, _∙_}
+use mathlib.Core.Bool.{true, false, _&&_, and-false}
+use mathlib.Core.List.{List}
+use mathlib.Core.Logic.{_≢_}
 use Prim.Native.Nat.{ℕ, _+_, _<_, _≤_}
+use native.Mathlib.Numerals.{add-one}
 use native.Mathlib.Omega.{arith}
 use lib.ListN.{length}
-use lib.Dec.{leb}
-use borrow.Author.Tests.{le-leb, lt-leb, leb-false, ltb-true}
+use lib.Dec.{leb, ltb, eqb, leb·zero}
+use borrow.Author.Tests.{eq-eqb, ne-eqb, le-leb, lt-leb, lt-ltb, le-ltb, leb-false, ltb-true}
+use Rattle.plain.specs.Search.{least}
 use Rattle.plain.specs.Table.{at}
-use Rattle.plain.proofs.Loops.{NoneBelow, none-more}
-use Rattle.tables.specs.Verdict.{Verdict, Sound, Refused, checks}
-use Rattle.tables.specs.Tree.{Inside, hub, treeVerdict}
-use Rattle.tables.proofs.Verdicts.{passes, refuses, checks-one, checks-append, refuse-at, refuse-none, none-refused, all-sound, unless-sound, not-both}
+use Rattle.tables.specs.Verdict.{Verdict, Sound, Refused, checks, refuseLeast}
+use Rattle.tables.specs.Tree.{hub, treeVerdict}
+use Rattle.tables.proofs.Verdicts.{none-refused, all-sound, unless-sound, not-both}
 use Rattle.site.specs.Check.{verdictOf}
 use Rattle.site.specs.declared.Check.{Check}
 use Rattle.site.specs.declared.Check.the-variants as check
 use Rattle.site.specs.declared.Fault.{Fault}
-use Rattle.site.specs.TreeCheck.{entriesVerdict, hubsVerdict, reachVerdict, Ready, Reached, Room, TreeChecked}
+use Rattle.site.specs.TreeCheck.{entriesVerdict, hubsVerdict, reachVerdict, hubFrom, Room, Ready, Reached}
+use Rattle.site.proofs.Checking.{told}
+use Rattle.site.proofs.Searching.{Searched}
 
--- the entries below v are machines
-pub record Entered (up : List ℕ) (v : ℕ) : Type 0 where
-  pub le : v ≤ length up
-  pub none : NoneBelow (λ k. leb (length up) (at up k)) v
+-- the search for a hub not below from begins there
+module _ (up : List ℕ) (from : ℕ) where
+  pub seek-start : from ≤ length up → Searched (length up) (λ v. leb from v && eqb (at up v) v) from
+  seek-start h = record { le = h; none = λ k b. rw (lt-leb from k b) refl }
 
-pub enter-start : (up : List ℕ) → Entered up 0
-enter-start up = record { le = omega arith; none = λ k h. absurd (omega arith) }
+  module _ (v : ℕ) where
+    pub seek-hub : from ≤ v → at up v ≡ v → (leb from v && eqb (at up v) v) ≡ true
+    seek-hub h e = rw (le-leb from v h, eq-eqb (at up v) v e) refl
 
-pub enter-next : {up : List ℕ} {v : ℕ} → v < length up → at up v < length up → Entered up v → Entered up (v + 1)
-enter-next {up} {v} h l a = record { le = omega arith; none = none-more (λ k. leb (length up) (at up k)) v (a .none) (lt-leb (length up) (at up v) l) }
+    pub seek-other : at up v ≢ v → (leb from v && eqb (at up v) v) ≡ false
+    seek-other o = rw (ne-eqb (at up v) v o) (and-false (leb from v))
 
-pub enter-found : {up : List ℕ} {v : ℕ} → v < length up → length up ≤ at up v → Entered up v → Refused 3 v ≡ entriesVerdict up
-enter-found {up} {v} h l a = sym (refuse-at 3 (length up) (λ k. leb (length up) (at up k)) v h (a .none) (le-leb (length up) (at up v) l))
+pub first-hub : (up : List ℕ) {r : ℕ} → r ≡ hubFrom up 0 → r ≡ hub up
+unfolding hub
+first-hub up e = e ∙ simp leb·zero
 
-pub enter-end : {up : List ℕ} {v : ℕ} → length up ≤ v → Entered up v → Sound ≡ entriesVerdict up
-enter-end {up} {v} h a = sym (refuse-none 3 (length up) (λ k. leb (length up) (at up k)) (λ k b. a .none k (omega arith)))
+module _ (up : List ℕ) {h : ℕ} (e : h ≡ hub up) where
+  pub no-hub : length up ≤ h → Refused 4 (length up) ≡ hubsVerdict up
+  unfolding checks
+  no-hub b = rw (le-ltb (hub up) (length up) (omega arith)) refl
 
-entries-inside : (up : List ℕ) → entriesVerdict up ≡ Sound → Inside up
-entries-inside up e v h = leb-false (length up) (at up v) (none-refused 3 (length up) (λ k. leb (length up) (at up k)) e v h)
+  module _ {r : ℕ} (b : h < length up) (f : r ≡ hubFrom up (h + 1)) where
+    behind : r ≡ least (length up) (λ v. ltb (hub up) v && eqb (at up v) v)
+    behind = f ∙ simp (e, add-one)
 
-hubs-in : (up : List ℕ) → hubsVerdict up ≡ Sound → hub up < length up
-hubs-in up e = ltb-true (hub up) (length up) (unless-sound _ _ _ (all-sound _ e .0))
+    pub two-hubs : r < length up → Refused 4 r ≡ hubsVerdict up
+    unfolding checks refuseLeast
+    two-hubs l = rw (lt-ltb (hub up) (length up) (omega arith), ← behind, lt-ltb r (length up) l) refl
 
-three : (a b c d : Verdict) → checks (a ∷ checks (b ∷ c ∷ []) ∷ d ∷ []) ≡ checks (a ∷ b ∷ c ∷ d ∷ [])
-unfolding checks
-three (Refused code value) b c d = refl
-three Sound b c d = checks-append (b ∷ c ∷ []) (d ∷ [])
+    pub one-hub : length up ≤ r → Sound ≡ hubsVerdict up
+    unfolding checks refuseLeast
+    one-hub l = rw (lt-ltb (hub up) (length up) (omega arith), ← behind, le-ltb r (length up) l) refl
 
-three-checks : (up : List ℕ) → checks (entriesVerdict up ∷ hubsVerdict up ∷ reachVerdict up ∷ []) ≡ treeVerdict up
-unfolding treeVerdict
-three-checks up = three _ _ _ _
-
--- a verdict is what the check's answer says
-answered : {r s : Check} {v : Verdict} → r ≡ s → verdictOf r ≡ v → v ≡ verdictOf s
-answered e q = sym q ∙ ap verdictOf e
-
--- the check ends at an entry
-pub stop-entries : {up known : List ℕ} {r : Check} {why : Fault} {v : ℕ} → r ≡ check.Refused why v → verdictOf r ≡ entriesVerdict up
-    → length known ≡ length up → TreeChecked up known r
-stop-entries {up} e q s = record {
-  verdict = q ∙ sym (refuses (answered e q) _) ∙ three-checks up;
-  size = s;
-  depths = not-both (ap verdictOf e);
+pub ready : {up known : List ℕ} {c d : Check} → c ≡ check.Sound → verdictOf c ≡ entriesVerdict up → d ≡ check.Sound → verdictOf d ≡ hubsVerdict up
+    → Room up known → Ready up known
+ready {up} e q f p m = record {
+  room = m;
+  inside = λ v h. leb-false (length up) (at up v) (none-refused 3 (length up) (λ k. leb (length up) (at up k)) (told e q) v h);
+  hub-in = ltb-true (hub up) (length up) (unless-sound _ _ _ (all-sound _ (told f p) .0));
 }
 
-module _ {up : List ℕ} {r : Check} (e : r ≡ check.Sound) (q : verdictOf r ≡ entriesVerdict up) where
-  -- it ends at the hubs
-  pub stop-hubs : {known : List ℕ} {r′ : Check} {why : Fault} {v : ℕ} → r′ ≡ check.Refused why v → verdictOf r′ ≡ hubsVerdict up
-      → length known ≡ length up → TreeChecked up known r′
-  stop-hubs e′ q′ s = record {
-    verdict = q′ ∙ sym (refuses (answered e′ q′) _) ∙ sym (passes (answered e q) _) ∙ three-checks up;
-    size = s;
-    depths = not-both (ap verdictOf e′);
-  }
+-- a refusal leaves no depths, and what the last part leaves is what the whole check leaves
+pub refused : {v : Verdict} {up known : List ℕ} {r : Check} {why : Fault} {place : ℕ} → r ≡ check.Refused why place → verdictOf r ≡ v → length known ≡ length up
+    → Reached v up known r
+refused e q s = record { verdict = q; size = s; depths = λ f. not-both (ap verdictOf e) (ap verdictOf f) }
 
-  module _ {r′ : Check} (e′ : r′ ≡ check.Sound) (q′ : verdictOf r′ ≡ hubsVerdict up) where
-    pub ready : {known : List ℕ} → Room up known → Ready up known
-    ready m = record { few = m .few; size = m .size; inside = entries-inside up (answered e q); hub-in = hubs-in up (answered e′ q′) }
-
-    -- it runs to its end
-    pub all-checked : {known : List ℕ} {r″ : Check} → Reached up known r″ → TreeChecked up known r″
-    all-checked k = record {
-      verdict = k .verdict ∙ sym (checks-one _) ∙ sym (passes (answered e′ q′) _) ∙ sym (passes (answered e q) _) ∙ three-checks up;
-      size = k .size;
-      depths = k .depths;
-    }
+pub reached : {up known : List ℕ} {r : Check} → Reached (reachVerdict up) up known r → verdictOf r ≡ treeVerdict up → Reached (treeVerdict up) up known r
+reached k q = record { verdict = q; size = k .size; depths = k .depths }

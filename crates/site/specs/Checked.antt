@@ -2,7 +2,7 @@
 -- These are the contracts of private functions: the public calls do not cite them, so nothing here has to be believed.
 use mathlib.Core.Path.{_≡_}
 use mathlib.Core.List.{List, [], _∷_}
-use Prim.Native.Nat.{ℕ, _<_, _≤_}
+use Prim.Native.Nat.{ℕ, _≤_}
 use lib.ListN.{length}
 use Rattle.tables.specs.Verdict.{Verdict, checks}
 use Rattle.tables.specs.Tree.{mostMachines, sizeVerdict, treeVerdict}
@@ -21,9 +21,8 @@ outputsVerdict n machines links = checks (sized 4 machines n ∷ sized 5 links n
 unfoldable pub tablesVerdict : List ℕ → Tables → Verdict
 tablesVerdict up t = checks (treeVerdict up ∷ rulesVerdict up t ∷ [])
 
--- what codes 1 and 2 leave: some machines and not too many, and an entry for each in each table
+-- what codes 1 and 2 leave: not too many machines, and an entry for each in each table
 pub record Sizes (n depth group mark : ℕ) : Type 0 where
-  pub some : 0 < n
   pub few : n ≤ mostMachines
   pub depth-size : depth ≡ n
   pub group-size : group ≡ n

@@ -1,7 +1,7 @@
 -- What the report asks of its slices, the tests that it makes of them, and how it fills its two outputs.
 -- These are the contracts of private functions: the public calls do not cite them, so nothing here has to be believed.
 use mathlib.Core.Path.{_≡_}
-use mathlib.Core.Bool.{Bool, _&&_, not}
+use mathlib.Core.Bool.{Bool, cond, _&&_, not}
 use mathlib.Core.List.{List}
 use Prim.Native.Nat.{ℕ}
 use lib.ListN.{length}
@@ -27,6 +27,10 @@ inTwo up group w c d = child up w c && (child up w d && not (eqb (at group c) (a
 -- the uplink of v ends at w and is lone
 abbrev pub loneEnd : List ℕ → List ℕ → ℕ → ℕ → Bool
 loneEnd up mark w v = ends up w v && eqb (at mark v) 0
+
+-- the link byte of v, where h is the hub
+abbrev pub linkByteAt : ℕ → List ℕ → ℕ → ℕ
+linkByteAt h mark v = cond (not (eqb v h) && eqb (at mark v) 0) 1 0
 
 -- a table has an entry for each machine, and h is the hub
 pub record ReportTable (up table : List ℕ) (h : ℕ) : Type 0 where

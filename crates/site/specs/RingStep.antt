@@ -81,5 +81,3 @@ pub record Ready (up depth group mark numbers : List ℕ) : Type 0 where
 pub record Applied (up depth group mark batch group′ mark′ : List ℕ) (r : ℕ) : Type 0 where
   pub tables : _≡_ {A = Tables} (record { depth = depth; group = group′; mark = mark′ }) (after up (pairs batch) (record { depth = depth; group = group; mark = mark }))
   pub rise : r ≡ total mark′ - total mark
-  pub group-size : length group′ ≡ length up
-  pub mark-size : length mark′ ≡ length up

@@ -1,9 +1,11 @@
 -- What the check of the rules asks of its slices.
 -- These are the contracts of private functions: the public calls do not cite them, so nothing here has to be believed.
 use mathlib.Core.Path.{_≡_}
+use mathlib.Core.Bool.{Bool, _&&_, _||_, not}
 use mathlib.Core.List.{List}
 use Prim.Native.Nat.{ℕ, _<_}
 use lib.ListN.{length}
+use lib.Dec.{leb, eqb}
 use Rattle.plain.specs.Table.{at}
 use Rattle.tables.specs.Tree.{hub, Inside}
 
@@ -21,3 +23,10 @@ pub record Beside (up table : List ℕ) (h v : ℕ) : Type 0 where
   pub low : v < length up
   pub above : at up v < length up
   pub top : h ≡ hub up
+
+-- two of the rules, where h is the hub
+abbrev pub hubRuleAt : ℕ → List ℕ → List ℕ → ℕ → Bool
+hubRuleAt h group mark v = not (eqb v h) || (eqb (at mark v) 0 && eqb (at group v) v)
+
+abbrev pub partnerRuleAt : ℕ → List ℕ → List ℕ → ℕ → Bool
+partnerRuleAt h group mark v = eqb v h || (eqb (at group v) v || (leb 1 (at mark (at group v)) && leb 1 (at mark v)))

@@ -3,15 +3,16 @@
 use mathlib.Core.Path.{_≡_}
 use mathlib.Core.Bool.{_&&_}
 use mathlib.Core.List.{List, [], _∷_}
-use mathlib.Core.Logic.{_≢_}
 use Prim.Native.Nat.{ℕ, _<_, _≤_}
 use lib.ListN.{length}
 use lib.Dec.{leb, ltb, eqb}
+use Rattle.plain.specs.Search.{least}
 use Rattle.plain.specs.Table.{at, tabulate}
 use Rattle.tables.specs.Verdict.{Verdict, Sound, checks, unless, refuseLeast}
 use Rattle.tables.specs.Tree.{mostMachines, climb, hub, Inside, depthOf, treeVerdict}
 use Rattle.site.specs.Check.{verdictOf}
 use Rattle.site.specs.declared.Check.{Check}
+use Rattle.site.specs.declared.Check.the-variants as check
 
 -- codes 3, 4 and 5 of treeVerdict, each by itself
 abbrev pub entriesVerdict : List ℕ → Verdict
@@ -26,12 +27,9 @@ hubsVerdict up =
 abbrev pub reachVerdict : List ℕ → Verdict
 reachVerdict up = refuseLeast 5 (length up) (λ v. leb (length up) (depthOf up v))
 
--- r is the least machine, not below from, that names itself, or n
-pub record HubFrom (up : List ℕ) (from r : ℕ) : Type 0 where
-  pub past : from ≤ r
-  pub le : r ≤ length up
-  pub before : (v : ℕ) → from ≤ v → v < r → at up v ≢ v
-  pub here : r < length up → at up r ≡ r
+-- the least machine, not below from, that names itself; n, if there is none
+abbrev pub hubFrom : List ℕ → ℕ → ℕ
+hubFrom up from = least (length up) (λ v. leb from v && eqb (at up v) v)
 
 -- stands in the table for a depth that is not known: no machine is so deep
 abbrev pub unknown : ℕ
@@ -89,24 +87,19 @@ pub record Laid (up known : List ℕ) (v : ℕ) (known′ : List ℕ) : Type 0 w
   pub kept : (x : ℕ) → Known known x → Known known′ x
   pub there : Known known′ v
 
--- what the reach check asks: every entry a machine, and there is a hub
-pub record Ready (up known : List ℕ) : Type 0 where
-  pub few : length up ≤ mostMachines
-  pub size : length known ≡ length up
-  pub inside : Inside up
-  pub hub-in : hub up < length up
-
-pub record Reached (up known : List ℕ) (r : Check) : Type 0 where
-  pub verdict : verdictOf r ≡ reachVerdict up
-  pub size : length known ≡ length up
-  pub depths : verdictOf r ≡ Sound → known ≡ tabulate (length up) (depthOf up)
-
--- the tree check: room for the depths, and what it answers and leaves there
+-- what the tree check asks: room for the depths
 pub record Room (up known : List ℕ) : Type 0 where
   pub few : length up ≤ mostMachines
   pub size : length known ≡ length up
 
-pub record TreeChecked (up known : List ℕ) (r : Check) : Type 0 where
-  pub verdict : verdictOf r ≡ treeVerdict up
+-- and its reach check: every entry a machine, and there is a hub
+pub record Ready (up known : List ℕ) : Type 0 where
+  pub room : Room up known
+  pub inside : Inside up
+  pub hub-in : hub up < length up
+
+-- what they leave: r says the verdict v, and where all is well the table has the depths
+pub record Reached (v : Verdict) (up known : List ℕ) (r : Check) : Type 0 where
+  pub verdict : verdictOf r ≡ v
   pub size : length known ≡ length up
-  pub depths : verdictOf r ≡ Sound → known ≡ tabulate (length up) (depthOf up)
+  pub depths : r ≡ check.Sound → known ≡ tabulate (length up) (depthOf up)

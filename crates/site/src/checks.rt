@@ -1,12 +1,14 @@
 // The checks that the calls share, each in the order of its codes, and the answer to one that refuses.
 ghost use mathlib.Core.Path.{_≡_};
+ghost use Rattle.tables.specs.Outcome.{addVerdict, reportVerdict};
 ghost use Rattle.site.specs.Check.{numberOf, codeOf, placeOf, verdictOf};
-ghost use Rattle.site.specs.Lent.{tablesOf};
+ghost use Rattle.site.specs.Lent.{tablesOf, bytesOf};
 ghost use Rattle.site.specs.Checked.{sizesVerdict, outputsVerdict, tablesVerdict, Lengths};
 use crate::Answer;
 use crate::Check;
 use crate::Fault;
 use crate::Site;
+use crate::batch;
 use crate::rules;
 use crate::tree;
 
@@ -88,4 +90,41 @@ pub fn tables(up: &[u16], depth: &[u16], group: &[u16], mark: &[u8]) -> Check
     };
     let top = tree::hub(up);
     rules::check(up, depth, group, mark, top)
+}
+
+// All checks of Add.
+pub fn add(up: &[u16], depth: &[u16], group: &[u16], mark: &[u8], batch: &[u16]) -> Check
+    ensures { λ r. ⌜ verdictOf r ≡ addVerdict (now (up .entry)) (now (batch .entry)) (tablesOf (now (depth .entry)) (now (group .entry)) (now (mark .entry))) ⌝ }
+{
+    let lengths = sizes(up.len(), depth.len(), group.len(), mark.len());
+    let Check::Sound = lengths else {
+        return lengths;
+    };
+    let kept = tables(up, depth, group, mark);
+    let Check::Sound = kept else {
+        return kept;
+    };
+    batch::check(up.len(), batch)
+}
+
+// All checks of Report.
+pub fn report(
+    up: &[u16],
+    depth: &[u16],
+    group: &[u16],
+    mark: &[u8],
+    machines: &[u8],
+    links: &[u8],
+) -> Check
+    ensures { λ r. ⌜ verdictOf r ≡ reportVerdict (now (up .entry)) (tablesOf (now (depth .entry)) (now (group .entry)) (now (mark .entry))) (bytesOf (now (machines .entry)) (now (links .entry))) ⌝ }
+{
+    let lengths = sizes(up.len(), depth.len(), group.len(), mark.len());
+    let Check::Sound = lengths else {
+        return lengths;
+    };
+    let bytes = outputs(up.len(), machines.len(), links.len());
+    let Check::Sound = bytes else {
+        return bytes;
+    };
+    tables(up, depth, group, mark)
 }

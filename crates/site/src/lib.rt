@@ -88,17 +88,9 @@ impl Site {
         ensures { λ r. ⌜ outcome (r .code) (r .value) (tablesOf (now (depth .exit)) (now (group .exit)) (now (mark .exit)))
             ≡ addOf (now (up .entry)) (now (batch .entry)) (tablesOf (now (depth .entry)) (now (group .entry)) (now (mark .entry))) ⌝ }
     {
-        let lengths = checks::sizes(up.len(), depth.len(), group.len(), mark.len());
-        let Check::Sound = lengths else {
-            return checks::refusal(lengths);
-        };
-        let tables = checks::tables(up, depth, group, mark);
-        let Check::Sound = tables else {
-            return checks::refusal(tables);
-        };
-        let links = batch::check(up.len(), batch);
-        let Check::Sound = links else {
-            return checks::refusal(links);
+        let check = checks::add(up, depth, group, mark, batch);
+        let Check::Sound = check else {
+            return checks::refusal(check);
         };
         let rise = ring::apply(up, depth, group, mark, batch);
         Answer {
@@ -119,17 +111,9 @@ impl Site {
         ensures { λ r. ⌜ outcome (r .code) (r .value) (bytesOf (now (machines .exit)) (now (links .exit)))
             ≡ reportOf (now (up .entry)) (tablesOf (now (depth .entry)) (now (group .entry)) (now (mark .entry))) (bytesOf (now (machines .entry)) (now (links .entry))) ⌝ }
     {
-        let lengths = checks::sizes(up.len(), depth.len(), group.len(), mark.len());
-        let Check::Sound = lengths else {
-            return checks::refusal(lengths);
-        };
-        let outputs = checks::outputs(up.len(), machines.len(), links.len());
-        let Check::Sound = outputs else {
-            return checks::refusal(outputs);
-        };
-        let tables = checks::tables(up, depth, group, mark);
-        let Check::Sound = tables else {
-            return checks::refusal(tables);
+        let check = checks::report(up, depth, group, mark, machines, links);
+        let Check::Sound = check else {
+            return checks::refusal(check);
         };
         let top = tree::hub(up);
         let chokes = report::fill(up, group, mark, top, machines, links);

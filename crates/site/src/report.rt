@@ -1,16 +1,17 @@
-// The report of a site: a byte for each machine, and one for each uplink.
+// The report of a site: a byte for each machine, and one for each uplink. A table that a test does not read is [] in its contract.
 use crate::table::at;
 ghost use mathlib.Core.Path.{_≡_};
 ghost use mathlib.Core.Bool.{cond};
-ghost use mathlib.Core.List.{List};
-ghost use Prim.Native.Nat.{ℕ, _<_};
+ghost use mathlib.Core.List.{[]};
+ghost use Prim.Native.Nat.{_<_};
 ghost use lib.ListN.{length};
 ghost use Rattle.plain.specs.Search.{some, count};
+ghost use Rattle.plain.specs.Table.{tabulate};
 ghost use Rattle.tables.specs.Outcome.{named};
-ghost use Rattle.tables.specs.Report.{child, stuck, split, ends, lone, machineByte, linkByte, machineBytes, linkBytes};
+ghost use Rattle.tables.specs.Report.{child, stuck, split, ends, lone, machineByte, machineBytes};
 ghost use Rattle.tables.specs.Tree.{hub};
 ghost use Rattle.site.specs.Lent.{tablesOf};
-ghost use Rattle.site.specs.ReportFill.{carriedMember, stuckChild, inTwo, loneEnd, ReportTable, ReportRead, ReportSized, ReportFilled};
+ghost use Rattle.site.specs.ReportFill.{carriedMember, stuckChild, inTwo, loneEnd, linkByteAt, ReportTable, ReportRead, ReportSized, ReportFilled};
 
 // Whether c is a child of w; the hub is no child.
 fn child(up: &[u16], top: usize, w: usize, c: usize) -> bool
@@ -55,7 +56,7 @@ fn group_carried(group: &[u16], mark: &[u8], g: usize) -> bool
 // Whether c is a child of w whose group has no carried member.
 fn stuck_child(up: &[u16], group: &[u16], mark: &[u8], top: usize, w: usize, c: usize) -> bool
     requires { ⌜ ReportRead (now up) (now group) (now mark) top × (c < length (now up)) ⌝ }
-    ensures { λ r. ⌜ ((d : List ℕ) → r ≡ stuckChild (now (up .entry)) (tablesOf d (now (group .entry)) (now (mark .entry))) w c) ⌝ }
+    ensures { λ r. ⌜ r ≡ stuckChild (now (up .entry)) (tablesOf [] (now (group .entry)) (now (mark .entry))) w c ⌝ }
 {
     if !child(up, top, w, c) {
         return false;
@@ -66,7 +67,7 @@ fn stuck_child(up: &[u16], group: &[u16], mark: &[u8], top: usize, w: usize, c: 
 // Line 1: some child's group has no carried member.
 fn stuck(up: &[u16], group: &[u16], mark: &[u8], top: usize, w: usize) -> bool
     requires { ⌜ ReportRead (now up) (now group) (now mark) top ⌝ }
-    ensures { λ r. ⌜ ((d : List ℕ) → r ≡ stuck (now (up .entry)) (tablesOf d (now (group .entry)) (now (mark .entry))) w) ⌝ }
+    ensures { λ r. ⌜ r ≡ stuck (now (up .entry)) (tablesOf [] (now (group .entry)) (now (mark .entry))) w ⌝ }
 {
     let mut c = 0;
     while c < up.len() {
@@ -110,7 +111,7 @@ fn other_group(up: &[u16], group: &[u16], top: usize, w: usize, c: usize) -> boo
 // Line 2: the children are in two or more groups.
 fn split(up: &[u16], group: &[u16], top: usize, w: usize) -> bool
     requires { ⌜ ReportTable (now up) (now group) top ⌝ }
-    ensures { λ r. ⌜ ((d m : List ℕ) → r ≡ split (now (up .entry)) (tablesOf d (now (group .entry)) m) w) ⌝ }
+    ensures { λ r. ⌜ r ≡ split (now (up .entry)) (tablesOf [] (now (group .entry)) []) w ⌝ }
 {
     let mut c = 0;
     while c < up.len() {
@@ -189,7 +190,7 @@ fn count_ends(up: &[u16], top: usize, w: usize) -> usize
 // Line 3: w ends a lone uplink, and two or more uplinks end at w.
 fn lone(up: &[u16], mark: &[u8], top: usize, w: usize) -> bool
     requires { ⌜ ReportTable (now up) (now mark) top ⌝ }
-    ensures { λ r. ⌜ ((d g : List ℕ) → r ≡ lone (now (up .entry)) (tablesOf d g (now (mark .entry))) w) ⌝ }
+    ensures { λ r. ⌜ r ≡ lone (now (up .entry)) (tablesOf [] [] (now (mark .entry))) w ⌝ }
 {
     if !ends_lone(up, mark, top, w) {
         return false;
@@ -200,7 +201,7 @@ fn lone(up: &[u16], mark: &[u8], top: usize, w: usize) -> bool
 // The last two lines of the machine byte.
 fn lone_byte(up: &[u16], mark: &[u8], top: usize, w: usize) -> u8
     requires { ⌜ ReportTable (now up) (now mark) top ⌝ }
-    ensures { λ r. ⌜ ((d g : List ℕ) → r ≡ cond (lone (now (up .entry)) (tablesOf d g (now (mark .entry))) w) 3 0) ⌝ }
+    ensures { λ r. ⌜ r ≡ cond (lone (now (up .entry)) (tablesOf [] [] (now (mark .entry))) w) 3 0 ⌝ }
 {
     if lone(up, mark, top, w) { 3 } else { 0 }
 }
@@ -208,7 +209,7 @@ fn lone_byte(up: &[u16], mark: &[u8], top: usize, w: usize) -> u8
 // The machine byte of w: the first line that applies. Only the hub has line 2, and it has no line 1.
 fn machine_byte(up: &[u16], group: &[u16], mark: &[u8], top: usize, w: usize) -> u8
     requires { ⌜ ReportRead (now up) (now group) (now mark) top ⌝ }
-    ensures { λ r. ⌜ ((d : List ℕ) → r ≡ machineByte (now (up .entry)) (tablesOf d (now (group .entry)) (now (mark .entry))) w) ⌝ }
+    ensures { λ r. ⌜ r ≡ machineByte (now (up .entry)) (tablesOf [] (now (group .entry)) (now (mark .entry))) w ⌝ }
 {
     if w == top {
         if split(up, group, top, w) {
@@ -226,7 +227,7 @@ fn machine_byte(up: &[u16], group: &[u16], mark: &[u8], top: usize, w: usize) ->
 // The link byte of v: 1 if v is not the hub and its mark is 0.
 fn link_byte(mark: &[u8], top: usize, v: usize) -> u8
     requires { ⌜ v < length (now mark) ⌝ }
-    ensures { λ r. ⌜ ((up d g : List ℕ) → top ≡ hub up → r ≡ linkByte up (tablesOf d g (now (mark .entry))) v) ⌝ }
+    ensures { λ r. ⌜ r ≡ linkByteAt top (now (mark .entry)) v ⌝ }
 {
     if v == top {
         return 0;
@@ -240,7 +241,7 @@ fn link_byte(mark: &[u8], top: usize, v: usize) -> u8
 // All machine bytes, in number order.
 fn fill_machines(up: &[u16], group: &[u16], mark: &[u8], top: usize, machines: &mut [u8])
     requires { ⌜ ReportRead (now up) (now group) (now mark) top × (length (now machines) ≡ length (now up)) ⌝ }
-    ensures { λ _. ⌜ ((d : List ℕ) → now (machines .exit) ≡ machineBytes (now (up .entry)) (tablesOf d (now (group .entry)) (now (mark .entry)))) ⌝ }
+    ensures { λ _. ⌜ now (machines .exit) ≡ machineBytes (now (up .entry)) (tablesOf [] (now (group .entry)) (now (mark .entry))) ⌝ }
 {
     let mut w = 0;
     while w < up.len() {
@@ -252,7 +253,7 @@ fn fill_machines(up: &[u16], group: &[u16], mark: &[u8], top: usize, machines: &
 // All link bytes, in number order.
 fn fill_links(mark: &[u8], top: usize, links: &mut [u8])
     requires { ⌜ length (now links) ≡ length (now mark) ⌝ }
-    ensures { λ _. ⌜ ((up d g : List ℕ) → ReportTable up (now (mark .entry)) top → now (links .exit) ≡ linkBytes up (tablesOf d g (now (mark .entry)))) ⌝ }
+    ensures { λ _. ⌜ now (links .exit) ≡ tabulate (length (now (links .entry))) (linkByteAt top (now (mark .entry))) ⌝ }
 {
     let mut v = 0;
     while v < mark.len() {
@@ -284,7 +285,7 @@ pub fn fill(
     links: &mut [u8],
 ) -> usize
     requires { ⌜ ReportSized (now up) (now group) (now mark) top (now machines) (now links) ⌝ }
-    ensures { λ r. ⌜ ((d : List ℕ) → ReportFilled (now (up .entry)) (tablesOf d (now (group .entry)) (now (mark .entry))) (now (machines .exit)) (now (links .exit)) r) ⌝ }
+    ensures { λ r. ⌜ ReportFilled (now (up .entry)) (tablesOf [] (now (group .entry)) (now (mark .entry))) (now (machines .exit)) (now (links .exit)) r ⌝ }
 {
     fill_machines(up, group, mark, top, machines);
     fill_links(mark, top, links);

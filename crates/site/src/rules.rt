@@ -1,18 +1,18 @@
-// The rules behind code 6: each is a test of one machine, and the least machine that breaks one is refused.
+// The rules behind code 6: each is a test of one machine, and the least machine that breaks one is refused. A table that a rule does not
+// read is [] in its contract.
 use crate::Check;
 use crate::Fault;
 use crate::table::at;
 ghost use mathlib.Core.Path.{_≡_};
-ghost use mathlib.Core.List.{List};
-ghost use Prim.Native.Nat.{ℕ, _<_};
+ghost use mathlib.Core.List.{[]};
+ghost use Prim.Native.Nat.{_<_};
 ghost use lib.ListN.{length};
 ghost use lib.Dec.{leb};
-ghost use Rattle.tables.specs.Tree.{hub};
-ghost use Rattle.tables.specs.Rules.{depthRule, hubRule, markRule, groupRule, partnerRule, carriedRule, rulesVerdict};
+ghost use Rattle.tables.specs.Rules.{depthRule, markRule, groupRule, carriedRule, rulesVerdict};
 ghost use Rattle.tables.specs.Rules;
 ghost use Rattle.site.specs.Check.{verdictOf};
 ghost use Rattle.site.specs.Lent.{tablesOf};
-ghost use Rattle.site.specs.RulesCheck.{Sized, Beside};
+ghost use Rattle.site.specs.RulesCheck.{Sized, Beside, hubRuleAt, partnerRuleAt};
 
 // Whether a mark is at least 1.
 fn ringed(mark: u8) -> bool
@@ -27,7 +27,7 @@ fn ringed(mark: u8) -> bool
 // Depth is 0 at the hub, else one more than that of up[v].
 fn depth_rule(up: &[u16], depth: &[u16], top: usize, v: usize) -> bool
     requires { ⌜ Beside (now up) (now depth) top v ⌝ }
-    ensures { λ r. ⌜ ((g m : List ℕ) → r ≡ depthRule (now (up .entry)) (tablesOf (now (depth .entry)) g m) v) ⌝ }
+    ensures { λ r. ⌜ r ≡ depthRule (now (up .entry)) (tablesOf (now (depth .entry)) [] []) v ⌝ }
 {
     if v == top {
         at(depth, v) == 0
@@ -39,7 +39,7 @@ fn depth_rule(up: &[u16], depth: &[u16], top: usize, v: usize) -> bool
 // The hub has mark 0 and its own group.
 fn hub_rule(group: &[u16], mark: &[u8], top: usize, v: usize) -> bool
     requires { ⌜ (v < length (now group)) × (v < length (now mark)) ⌝ }
-    ensures { λ r. ⌜ ((up d : List ℕ) → top ≡ hub up → r ≡ hubRule up (tablesOf d (now (group .entry)) (now (mark .entry))) v) ⌝ }
+    ensures { λ r. ⌜ r ≡ hubRuleAt top (now (group .entry)) (now (mark .entry)) v ⌝ }
 {
     if v != top {
         return true;
@@ -53,7 +53,7 @@ fn hub_rule(group: &[u16], mark: &[u8], top: usize, v: usize) -> bool
 // A mark is at most 2.
 fn mark_rule(mark: &[u8], v: usize) -> bool
     requires { ⌜ v < length (now mark) ⌝ }
-    ensures { λ r. ⌜ ((d g : List ℕ) → r ≡ markRule (tablesOf d g (now (mark .entry))) v) ⌝ }
+    ensures { λ r. ⌜ r ≡ markRule (tablesOf [] [] (now (mark .entry))) v ⌝ }
 {
     match mark[v] {
         0..=2 => true,
@@ -64,7 +64,7 @@ fn mark_rule(mark: &[u8], v: usize) -> bool
 // The group of any other machine is named by a child of the same machine, at most v and of its own group.
 fn group_rule(up: &[u16], group: &[u16], top: usize, v: usize) -> bool
     requires { ⌜ Beside (now up) (now group) top v ⌝ }
-    ensures { λ r. ⌜ ((d m : List ℕ) → r ≡ groupRule (now (up .entry)) (tablesOf d (now (group .entry)) m) v) ⌝ }
+    ensures { λ r. ⌜ r ≡ groupRule (now (up .entry)) (tablesOf [] (now (group .entry)) []) v ⌝ }
 {
     if v == top {
         return true;
@@ -85,7 +85,7 @@ fn group_rule(up: &[u16], group: &[u16], top: usize, v: usize) -> bool
 // A machine that is not the name of its group is ringed, and so is the name; no machine is no ringed one.
 fn partner_rule(group: &[u16], mark: &[u8], top: usize, v: usize) -> bool
     requires { ⌜ (v < length (now group)) × (length (now mark) ≡ length (now group)) ⌝ }
-    ensures { λ r. ⌜ ((up d : List ℕ) → top ≡ hub up → r ≡ partnerRule up (tablesOf d (now (group .entry)) (now (mark .entry))) v) ⌝ }
+    ensures { λ r. ⌜ r ≡ partnerRuleAt top (now (group .entry)) (now (mark .entry)) v ⌝ }
 {
     if v == top {
         return true;
@@ -103,7 +103,7 @@ fn partner_rule(group: &[u16], mark: &[u8], top: usize, v: usize) -> bool
 // The machine above a carried one is ringed, and is not the hub.
 fn carried_rule(up: &[u16], mark: &[u8], top: usize, v: usize) -> bool
     requires { ⌜ Beside (now up) (now mark) top v ⌝ }
-    ensures { λ r. ⌜ ((d g : List ℕ) → r ≡ carriedRule (now (up .entry)) (tablesOf d g (now (mark .entry))) v) ⌝ }
+    ensures { λ r. ⌜ r ≡ carriedRule (now (up .entry)) (tablesOf [] [] (now (mark .entry))) v ⌝ }
 {
     let above = at(up, v);
     match mark[v] {

@@ -2,9 +2,9 @@
 ghost use mathlib.Core.Path.{_≡_};
 ghost use Prim.Native.Nat.{_≤_};
 ghost use lib.ListN.{length};
-ghost use Rattle.tables.specs.Tree.{hub};
+ghost use Rattle.tables.specs.Tree.{hub, treeVerdict};
 ghost use Rattle.site.specs.Check.{verdictOf};
-ghost use Rattle.site.specs.TreeCheck.{entriesVerdict, hubsVerdict, HubFrom, Blank, Climbing, Stopped, Laying, Laid, Ready, Reached, Room, TreeChecked};
+ghost use Rattle.site.specs.TreeCheck.{entriesVerdict, hubsVerdict, reachVerdict, hubFrom, Blank, Climbing, Stopped, Laying, Laid, Room, Ready, Reached};
 use crate::Check;
 use crate::Fault;
 
@@ -34,7 +34,7 @@ fn entries(up: &[u16]) -> Check
 // The least machine, not below `from`, that names itself; the number of machines, if there is none.
 fn hub_from(up: &[u16], from: usize) -> usize
     requires { ⌜ from ≤ length (now up) ⌝ }
-    ensures { λ r. ⌜ HubFrom (now (up .entry)) from r ⌝ }
+    ensures { λ r. ⌜ r ≡ hubFrom (now (up .entry)) from ⌝ }
 {
     let mut v = from;
     while v < up.len() {
@@ -114,7 +114,7 @@ fn lay(up: &[u16], known: &mut [u16], v: usize, depth: usize)
 // Every machine reaches the hub, and then `known` has the depths. A climb that meets no known depth ends the check.
 fn reach(up: &[u16], known: &mut [u16]) -> Check
     requires { ⌜ Ready (now up) (now known) ⌝ }
-    ensures { λ r. ⌜ Reached (now (up .entry)) (now (known .exit)) r ⌝ }
+    ensures { λ r. ⌜ Reached (reachVerdict (now (up .entry))) (now (up .entry)) (now (known .exit)) r ⌝ }
 {
     blank(known);
     let top = hub(up);
@@ -137,7 +137,7 @@ fn reach(up: &[u16], known: &mut [u16]) -> Check
 // The three checks of a tree in their order. Where all is well, `known` has the depths.
 pub fn check(up: &[u16], known: &mut [u16]) -> Check
     requires { ⌜ Room (now up) (now known) ⌝ }
-    ensures { λ r. ⌜ TreeChecked (now (up .entry)) (now (known .exit)) r ⌝ }
+    ensures { λ r. ⌜ Reached (treeVerdict (now (up .entry))) (now (up .entry)) (now (known .exit)) r ⌝ }
 {
     let within = entries(up);
     let Check::Sound = within else {

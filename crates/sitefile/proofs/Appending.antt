@@ -4,10 +4,11 @@ use mathlib.Core.Path.{_≡_, refl, sym, ap, subst, _∙_}
 use mathlib.Core.List.{List, [], _∷_, _++_}
 use Prim.Native.Nat.{ℕ, suc, _+_, _≤_}
 use native.Mathlib.Omega.{arith}
-use lib.ListN.{length, set, drop, length-append}
-use lib.Seq.{sets, length-sets, sets-eq}
+use lib.ListN.{length, set, length-append}
+use lib.Seq.{sets, length-sets}
 use Rattle.sitefile.specs.Next.{laid}
 use Rattle.sitefile.specs.Written.{wrote, Appends}
+use Rattle.sitefile.proofs.Fronts.{laid-more}
 
 sets-append : (l : List ℕ) (i : ℕ) (s t : List ℕ) → sets l i (s ++ t) ≡ sets (sets l i s) (i + length s) t
 sets-append l i [] t = let q : i ≡ i + 0 = omega arith in ap (λ k. sets l k t) q
@@ -28,6 +29,9 @@ then {l} {m} {o} {s} {t} {i} {j} {k} a b = record {
   next = omega (arith, a .next, b .next, length-append s t);
 }
 
+pub byte-then : {l m o t : List ℕ} {i j k a : ℕ} → Appends l i (a ∷ []) m j → Appends m j t o k → Appends l i (a ∷ t) o k
+byte-then p q = then p q
+
 pub room : {l m s : List ℕ} {i j : ℕ} (t : List ℕ) → i + length (s ++ t) ≤ length l → Appends l i s m j → j + length t ≤ length m
 room {l} {m} {s} t h a = omega (arith, h, a .next, size a, length-append s t)
 
@@ -45,7 +49,6 @@ room-reworded i n e h = subst (λ x. i + length x ≤ n) e h
 -- a whole text from the front
 pub over-front : {l m s : List ℕ} {j : ℕ} → length s ≤ length l → Appends l 0 s m j → wrote j m ≡ wrote (length s) (laid s l)
 over-front {l} {m} {s} {j} h a =
-    let z : 0 + length s ≡ length s = omega arith in
-    let e : m ≡ laid s l = a .bytes ∙ sets-eq s l 0 (omega arith) ∙ ap (λ k. s ++ drop k l) z in
+    let e : m ≡ laid s l = a .bytes ∙ laid-more l s 0 (omega arith) in
     let n : j ≡ length s = omega (arith, a .next) in
     rw (e, n)

@@ -20,7 +20,7 @@ unfolding bodyLength
 no-bytes kind a b c = rw (ne-eqb kind 1 a, ne-eqb kind 2 b, ne-eqb kind 3 c)
 
 -- no bytes from anywhere
-pub nothing : (a : ℕ) (l : List ℕ) → take (a - a) l ≡ []
+nothing : (a : ℕ) (l : List ℕ) → take (a - a) l ≡ []
 nothing a l = let q : a - a ≡ 0 = omega arith in rw q
 
 module _ (file : List ℕ) (place len : ℕ) (kind : len ≡ bodyLength (at file place)) where

@@ -11,7 +11,7 @@ use lib.Dec.{ltb}
 use borrow.Author.Tests.{lt-ltb, le-ltb}
 use Rattle.sitefile.specs.Text.{digits, decimal}
 use Rattle.sitefile.specs.Written.{Appends}
-use Rattle.sitefile.proofs.Appending.{room, room-first, room-reworded}
+use Rattle.sitefile.proofs.Appending.{then, reworded, room, room-first, room-reworded}
 
 tenth-below : (j n : ℕ) → n < 10 ^ suc (suc j) → n / 10 < 10 ^ suc j
 tenth-below j n h = omega (arith, h, pow-succ' 10 (suc j))
@@ -25,7 +25,7 @@ pub one-digit : (n : ℕ) → n < 10 → (48 + n) ∷ [] ≡ decimal n
 unfolding digits
 one-digit n h = rw (lt-ltb n 10 h)
 
-pub last-digit : (n : ℕ) → 10 ≤ n → n < 2 ^ 64 → decimal (n / 10) ++ ((48 + n % 10) ∷ []) ≡ decimal n
+last-digit : (n : ℕ) → 10 ≤ n → n < 2 ^ 64 → decimal (n / 10) ++ ((48 + n % 10) ∷ []) ≡ decimal n
 unfolding digits
 last-digit n h b = rw (le-ltb n 10 h) (ap (λ l. l ++ ((48 + n % 10) ∷ [])) (sym (enough 18 (n / 10) (omega arith))))
 
@@ -35,11 +35,17 @@ module _ (i n : ℕ) (l : List ℕ) (h : i + length (decimal n) ≤ length l) wh
   room-one b = omega (arith, b, room-reworded i (length l) (sym (one-digit n b)) h)
 
   module _ (big : 10 ≤ n) (fits : n < 2 ^ 64) where
+    room-both : i + length (decimal (n / 10) ++ ((48 + n % 10) ∷ [])) ≤ length l
+    room-both = room-reworded i (length l) (sym (last-digit n big fits)) h
+
     pub room-tenth : i + length (decimal (n / 10)) ≤ length l
-    room-tenth = room-first i (length l) (decimal (n / 10)) ((48 + n % 10) ∷ []) (room-reworded i (length l) (sym (last-digit n big fits)) h)
+    room-tenth = room-first i (length l) (decimal (n / 10)) ((48 + n % 10) ∷ []) room-both
 
     pub room-last : {m : List ℕ} {j : ℕ} → Appends l i (decimal (n / 10)) m j → j < length m
-    room-last a = omega (arith, room ((48 + n % 10) ∷ []) (room-reworded i (length l) (sym (last-digit n big fits)) h) a)
+    room-last a = omega (arith, room ((48 + n % 10) ∷ []) room-both a)
+
+pub all-digits : {l m o : List ℕ} {i j k : ℕ} (n : ℕ) → 10 ≤ n → n < 2 ^ 64 → Appends l i (decimal (n / 10)) m j → Appends m j ((48 + n % 10) ∷ []) o k → Appends l i (decimal n) o k
+all-digits n h b p q = reworded (last-digit n h b) (then p q)
 
 one-more : (b : Bool) (x y j : ℕ) (l : List ℕ) → length l ≤ j → length (cond b (x ∷ []) (l ++ (y ∷ []))) ≤ suc j
 one-more true x y j l h = omega arith

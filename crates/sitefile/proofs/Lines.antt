@@ -1,38 +1,16 @@
 -- A loop that writes a piece of text for each number below n. After k turns the pieces below k are written; all of them are those, the next
 -- one, and the rest, so where there is room for all there is room for the next.
 use mathlib.Core.Path.{_≡_, refl, ap, subst, _∙_}
-use mathlib.Core.List.{List, [], _++_, append-nil, append-assoc}
+use mathlib.Core.List.{List, _++_, append-nil, append-assoc}
 use Prim.Native.Nat.{ℕ, zero, suc, _+_, _-_, _<_, _≤_}
 use native.Mathlib.Omega.{arith}
 use lib.ListN.{length}
-use Rattle.plain.specs.Table.{at}
-use Rattle.sitefile.specs.Text.{machineLines, uplinkLines}
-use Rattle.sitefile.specs.Written.{Appends, lineFor}
+use Rattle.sitefile.specs.Text.{lines}
+use Rattle.sitefile.specs.Written.{Appends}
 use Rattle.sitefile.proofs.Appending as appending
 
--- f k, f (k + 1), .., m of them
-unfoldable pub pieces : (ℕ → List ℕ) → ℕ → ℕ → List ℕ
-pieces f k zero = []
-pieces f k (suc m) = f k ++ pieces f (suc k) m
-
-abbrev pub machinePiece : List ℕ → ℕ → List ℕ
-machinePiece bytes k = lineFor (at bytes k) 77 k (at bytes k)
-
-abbrev pub uplinkPiece : List ℕ → List ℕ → ℕ → List ℕ
-uplinkPiece up bytes k = lineFor (at bytes k) 76 k (at up k)
-
-pub machine-pieces : (bytes : List ℕ) (k m : ℕ) → machineLines bytes k m ≡ pieces (machinePiece bytes) k m
-unfolding pieces machineLines
-machine-pieces bytes k zero = refl
-machine-pieces bytes k (suc m) = ap (λ l. machinePiece bytes k ++ l) (machine-pieces bytes (suc k) m)
-
-pub uplink-pieces : (up bytes : List ℕ) (k m : ℕ) → uplinkLines up bytes k m ≡ pieces (uplinkPiece up bytes) k m
-unfolding pieces uplinkLines
-uplink-pieces up bytes k zero = refl
-uplink-pieces up bytes k (suc m) = ap (λ l. uplinkPiece up bytes k ++ l) (uplink-pieces up bytes (suc k) m)
-
-split : (f : ℕ → List ℕ) (j k m i n : ℕ) → i ≡ j + k → n ≡ k + m → pieces f j n ≡ pieces f j k ++ pieces f i m
-unfolding pieces
+split : (f : ℕ → List ℕ) (j k m i n : ℕ) → i ≡ j + k → n ≡ k + m → lines f j n ≡ lines f j k ++ lines f i m
+unfolding lines
 split f j zero m i n p q =
     let p′ : i ≡ j = omega arith in
     let q′ : n ≡ m = omega arith in
@@ -44,26 +22,26 @@ split f j (suc k) m i n p q =
 -- the pieces below k are written from place i on
 pub record Lining (f : ℕ → List ℕ) (n : ℕ) (l : List ℕ) (i : ℕ) (k : ℕ) (m : List ℕ) (j : ℕ) : Type 0 where
   pub le : k ≤ n
-  pub done : Appends l i (pieces f 0 k) m j
+  pub done : Appends l i (lines f 0 k) m j
 
 pub start : (f : ℕ → List ℕ) (n : ℕ) (l : List ℕ) (i : ℕ) → Lining f n l i 0 l i
-unfolding pieces
+unfolding lines
 start f n l i = record { le = omega arith; done = appending.none-yet l i }
 
-pub room : {f : ℕ → List ℕ} {n k : ℕ} {l m : List ℕ} {i j : ℕ} → i + length (pieces f 0 n) ≤ length l → k < n → Lining f n l i k m j → j + length (f k) ≤ length m
-unfolding pieces
+pub room : {f : ℕ → List ℕ} {n k : ℕ} {l m : List ℕ} {i j : ℕ} → i + length (lines f 0 n) ≤ length l → k < n → Lining f n l i k m j → j + length (f k) ≤ length m
+unfolding lines
 room {f} {n} {k} {l} {m} {i} {j} h b a =
-    let e : pieces f 0 n ≡ pieces f 0 k ++ (f k ++ pieces f (suc k) (n - (k + 1))) = split f 0 k (suc (n - (k + 1))) k n (omega arith) (omega arith) in
-    let h′ : i + length (pieces f 0 k ++ (f k ++ pieces f (suc k) (n - (k + 1)))) ≤ length l = rw e at h in
-    appending.room-first j (length m) (f k) (pieces f (suc k) (n - (k + 1))) (appending.room _ h′ (a .done))
+    let e : lines f 0 n ≡ lines f 0 k ++ (f k ++ lines f (suc k) (n - (k + 1))) = split f 0 k (suc (n - (k + 1))) k n (omega arith) (omega arith) in
+    let h′ : i + length (lines f 0 k ++ (f k ++ lines f (suc k) (n - (k + 1)))) ≤ length l = rw e at h in
+    appending.room-first j (length m) (f k) (lines f (suc k) (n - (k + 1))) (appending.room _ h′ (a .done))
 
 pub next : {f : ℕ → List ℕ} {n k : ℕ} {l m o : List ℕ} {i j r : ℕ} → k < n → Appends m j (f k) o r → Lining f n l i k m j → Lining f n l i (k + 1) o r
-unfolding pieces
+unfolding lines
 next {f} {n} {k} {l} {m} {o} {i} {j} {r} b p a =
-    let e : pieces f 0 (k + 1) ≡ pieces f 0 k ++ f k = split f 0 k 1 k (k + 1) (omega arith) refl ∙ ap (λ x. pieces f 0 k ++ x) (append-nil (f k)) in
+    let e : lines f 0 (k + 1) ≡ lines f 0 k ++ f k = split f 0 k 1 k (k + 1) (omega arith) refl ∙ ap (λ x. lines f 0 k ++ x) (append-nil (f k)) in
     record { le = omega arith; done = rw e (appending.then (a .done) p) }
 
-pub end : {f : ℕ → List ℕ} {n k : ℕ} {l m : List ℕ} {i j : ℕ} → n ≤ k → Lining f n l i k m j → Appends l i (pieces f 0 n) m j
+pub end : {f : ℕ → List ℕ} {n k : ℕ} {l m : List ℕ} {i j : ℕ} → n ≤ k → Lining f n l i k m j → Appends l i (lines f 0 n) m j
 end {f} {n} {k} {l} {m} {i} {j} h a =
     let q : k ≡ n = omega (arith, a .le) in
-    subst (λ x. Appends l i (pieces f 0 x) m j) q (a .done)
+    subst (λ x. Appends l i (lines f 0 x) m j) q (a .done)

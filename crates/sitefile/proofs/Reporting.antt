@@ -1,37 +1,35 @@
--- The text of a report is three parts, one behind the other. The room that is asked for is enough for the whole: 11 bytes for a line `M`, 13
--- for a line `L`, 44 for the line `T`; so there is room for each part in turn, and the three together are the text.
-use mathlib.Core.Path.{_≡_, sym, ap}
-use mathlib.Core.Bool.{true, false}
+-- The text of a refusal is one line, of at most 44 bytes. The text of a report is three parts, one behind the other. The room that is asked for is
+-- enough for the whole: 11 bytes for a line `M`, 13 for a line `L`, 44 for the line `T`; so there is room for each part in turn, and the three
+-- together are the text.
+use mathlib.Core.Path.{_≡_, sym, ap, _∙_}
+use mathlib.Core.Bool.{Bool, true, false, not}
 use mathlib.Core.List.{List, _++_}
 use Prim.Native.Nat.{ℕ, _+_, _*_, _<_, _≤_}
 use native.Mathlib.Omega.{arith}
 use lib.ListN.{length, length-append}
+use borrow.Author.Tests.{le-leb, lt-leb, not-true, not-false}
+use mir.Syntax.{w8, w16}
+use mir.Val.{Fits}
 use Rattle.plain.specs.Table.{at}
 use Rattle.plain.proofs.Says.{says-and, says-le, says-eq}
 use Rattle.tables.specs.Tree.{mostMachines}
 use Rattle.tables.specs.Outcome.{named}
 use Rattle.sitefile.specs.Text.{line, machineLines, uplinkLines, reportText}
-use Rattle.sitefile.specs.Written.{wrote, reportFits, reportWritten, Appends, Uplinks}
+use Rattle.sitefile.specs.Written.{wrote, refusalWritten, reportFits, reportWritten, Appends, Uplinks}
 use Rattle.sitefile.proofs.Appending.{then, reworded, room, room-first, over-front}
 use Rattle.sitefile.proofs.Widths.{any-line, machine-lines, uplink-lines}
 
--- what the test says
-record Fitting (up machines links buffer : List ℕ) : Type 0 where
-  few : length up ≤ 4096
-  machines-size : length machines ≡ length up
-  links-size : length links ≡ length up
-  room : 24 * length up + 64 ≤ length buffer
+module _ (code value : ℕ) (buffer : List ℕ) where
+  pub refusal-unfit : length buffer < 64 → wrote 0 buffer ≡ refusalWritten code value buffer
+  unfolding refusalWritten
+  refusal-unfit h = rw (lt-leb 64 (length buffer))
 
-fitting : (up machines links buffer : List ℕ) → reportFits (length up) (length machines) (length links) (length buffer) ≡ true → Fitting up machines links buffer
-unfolding reportFits
-fitting up machines links buffer e =
-    let n = length up in
-    let (a, (b, (c, d))) = says-and (says-le n mostMachines) (says-and (says-eq (length machines) n) (says-and (says-eq (length links) n) (says-le (24 * n + 64) (length buffer)))) .gives e in
-    record { few = a; machines-size = b; links-size = c; room = d }
+  pub refusal-room : 64 ≤ length buffer → 0 + length (line 82 code value) ≤ length buffer
+  refusal-room h = omega (arith, any-line 82 code value)
 
-pub unfit : (up machines links buffer : List ℕ) → reportFits (length up) (length machines) (length links) (length buffer) ≡ false → wrote 0 buffer ≡ reportWritten up machines links buffer
-unfolding reportWritten
-unfit up machines links buffer e = rw e
+  pub refused : {m : List ℕ} {j : ℕ} → 64 ≤ length buffer → Appends buffer 0 (line 82 code value) m j → wrote j m ≡ refusalWritten code value buffer
+  unfolding refusalWritten
+  refused h a = rw (le-leb 64 (length buffer)) (over-front (omega (arith, any-line 82 code value)) a)
 
 -- the three parts, as the code has their lengths
 abbrev machinePart : List ℕ → List ℕ
@@ -43,18 +41,27 @@ uplinkPart up links = uplinkLines up links 0 (length links)
 abbrev totalPart : List ℕ → List ℕ → List ℕ
 totalPart machines links = line 84 (named machines) (named links)
 
-module _ (up machines links buffer : List ℕ) (fits : reportFits (length up) (length machines) (length links) (length buffer) ≡ true) where
-  parts : machinePart machines ++ (uplinkPart up links ++ totalPart machines links) ≡ reportText up (record { machines = machines; links = links })
-  unfolding reportText
-  parts = let f = fitting up machines links buffer fits in rw (f .machines-size, f .links-size)
+module _ (up machines links buffer : List ℕ) {b : Bool} (e : b ≡ reportFits (length up) (length machines) (length links) (length buffer)) where
+  pub unfit : not b ≡ true → wrote 0 buffer ≡ reportWritten up machines links buffer
+  unfolding reportWritten
+  unfit f = rw (sym e ∙ not-true b f)
 
-  module _ (bytes : (i : ℕ) → at machines i < 256) (numbers : (i : ℕ) → at up i < 65536) where
+  module _ (f : not b ≡ false) (bytes : (i : ℕ) → Fits w8 (at machines i)) (numbers : (i : ℕ) → Fits w16 (at up i)) where
+    fit : (length up ≤ mostMachines) × ((length machines ≡ length up) × ((length links ≡ length up) × (24 * length up + 64 ≤ length buffer)))
+    fit =
+        let n = length up in
+        says-and (says-le n mostMachines) (says-and (says-eq (length machines) n) (says-and (says-eq (length links) n) (says-le (24 * n + 64) (length buffer)))) .gives (sym e ∙ not-false b f)
+
+    parts : machinePart machines ++ (uplinkPart up links ++ totalPart machines links) ≡ reportText up (record { machines = machines; links = links })
+    unfolding reportText
+    parts = rw (fit .1 .0, fit .1 .1 .0)
+
     whole : 0 + length (machinePart machines ++ (uplinkPart up links ++ totalPart machines links)) ≤ length buffer
     whole =
-        let f = fitting up machines links buffer fits in
-        let m : length (machinePart machines) ≤ 11 * length machines = machine-lines (length machines) (omega (arith, f .few, f .machines-size)) machines bytes in
-        let l : length (uplinkPart up links) ≤ 13 * length links = uplink-lines (length links) (omega (arith, f .few, f .links-size)) up links numbers in
-        omega (arith, f .machines-size, f .links-size, f .room, any-line 84 (named machines) (named links), length-append (machinePart machines) (uplinkPart up links ++ totalPart machines links), length-append (uplinkPart up links) (totalPart machines links))
+        let k = fit in
+        let m : length (machinePart machines) ≤ 11 * length machines = machine-lines (length machines) (omega arith) machines bytes in
+        let l : length (uplinkPart up links) ≤ 13 * length links = uplink-lines (length links) (omega arith) up links numbers in
+        omega (arith, any-line 84 (named machines) (named links), length-append (machinePart machines) (uplinkPart up links ++ totalPart machines links), length-append (uplinkPart up links) (totalPart machines links))
 
     pub room-machines : 0 + length (machinePart machines) ≤ length buffer
     room-machines = room-first 0 (length buffer) (machinePart machines) (uplinkPart up links ++ totalPart machines links) whole
@@ -65,7 +72,7 @@ module _ (up machines links buffer : List ℕ) (fits : reportFits (length up) (l
 
       pub room-uplinks : Uplinks up links m j
       room-uplinks = record {
-        sizes = sym (fitting up machines links buffer fits .links-size);
+        sizes = sym (fit .1 .1 .0);
         room = room-first j (length m) (uplinkPart up links) (totalPart machines links) rest;
       }
 
@@ -77,4 +84,4 @@ module _ (up machines links buffer : List ℕ) (fits : reportFits (length up) (l
         unfolding reportWritten
         reported third =
             let text : length (reportText up (record { machines = machines; links = links })) ≤ length buffer = omega (arith, whole, ap length parts) in
-            rw fits (over-front text (reworded parts (then first (then second third))))
+            rw (sym e ∙ not-false b f) (over-front text (reworded parts (then first (then second third))))

@@ -7,11 +7,11 @@ use native.Mathlib.Omega.{arith}
 use native.Mathlib.Nat.{mul-suc}
 use lib.ListN.{length, length-append}
 use lib.Dec.{eqb}
+use mir.Syntax.{w8, w16}
+use mir.Val.{Fits}
 use Rattle.plain.specs.Table.{at}
-use Rattle.sitefile.specs.Text.{decimal, line, machineLines, uplinkLines}
-use Rattle.sitefile.specs.Written.{lineFor}
+use Rattle.sitefile.specs.Text.{decimal, line, lineFor, lines, machineLine, machineLines, uplinkLine, uplinkLines}
 use Rattle.sitefile.proofs.Digits.{length-places, length-below}
-use Rattle.sitefile.proofs.Lines.{pieces, machinePiece, uplinkPiece, machine-pieces, uplink-pieces}
 
 line-length : (c a b : ℕ) → length (line c a b) ≡ 4 + length (decimal a) + length (decimal b)
 unfolding line
@@ -28,20 +28,18 @@ line-width byte c a b p q h k = go (eqb byte 0)
     go true = omega arith
     go false = omega (arith, line-length c a b, length-below 20 p a h, length-below 20 q b k)
 
-pieces-length : (f : ℕ → List ℕ) (w n : ℕ) → ((i : ℕ) → i < n → length (f i) ≤ w) → (m k : ℕ) → k + m ≤ n → length (pieces f k m) ≤ w * m
-unfolding pieces
-pieces-length f w n h zero k b = omega arith
-pieces-length f w n h (suc m) k b =
-    omega (arith, b, mul-suc w m, length-append (f k) (pieces f (suc k) m), h k (omega arith), pieces-length f w n h m (suc k) (omega arith))
+lines-length : (f : ℕ → List ℕ) (w n : ℕ) → ((i : ℕ) → i < n → length (f i) ≤ w) → (m k : ℕ) → k + m ≤ n → length (lines f k m) ≤ w * m
+unfolding lines
+lines-length f w n h zero k b = omega arith
+lines-length f w n h (suc m) k b =
+    omega (arith, mul-suc w m, length-append (f k) (lines f (suc k) m), h k (omega arith), lines-length f w n h m (suc k) (omega arith))
 
 -- the number of a machine has at most 4 digits, a byte 3 and an uplink 5
 module _ (n : ℕ) (few : n ≤ 4096) where
-  pub machine-lines : (bytes : List ℕ) → ((i : ℕ) → at bytes i < 256) → length (machineLines bytes 0 n) ≤ 11 * n
+  pub machine-lines : (bytes : List ℕ) → ((i : ℕ) → Fits w8 (at bytes i)) → length (machineLines bytes 0 n) ≤ 11 * n
   machine-lines bytes small =
-      let width : (i : ℕ) → i < n → length (machinePiece bytes i) ≤ 11 = λ i h. line-width (at bytes i) 77 i (at bytes i) 3 2 (omega arith) (omega (arith, small i)) in
-      rw (machine-pieces bytes 0 n) (pieces-length (machinePiece bytes) 11 n width n 0 (omega arith))
+      lines-length (machineLine bytes) 11 n (λ i h. line-width (at bytes i) 77 i (at bytes i) 3 2 (omega arith) (omega (arith, small i))) n 0 (omega arith)
 
-  pub uplink-lines : (up bytes : List ℕ) → ((i : ℕ) → at up i < 65536) → length (uplinkLines up bytes 0 n) ≤ 13 * n
+  pub uplink-lines : (up bytes : List ℕ) → ((i : ℕ) → Fits w16 (at up i)) → length (uplinkLines up bytes 0 n) ≤ 13 * n
   uplink-lines up bytes small =
-      let width : (i : ℕ) → i < n → length (uplinkPiece up bytes i) ≤ 13 = λ i h. line-width (at bytes i) 76 i (at up i) 3 4 (omega arith) (omega (arith, small i)) in
-      rw (uplink-pieces up bytes 0 n) (pieces-length (uplinkPiece up bytes) 13 n width n 0 (omega arith))
+      lines-length (uplinkLine up bytes) 13 n (λ i h. line-width (at bytes i) 76 i (at up i) 3 4 (omega arith) (omega (arith, small i))) n 0 (omega arith)

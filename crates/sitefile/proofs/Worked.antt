@@ -11,10 +11,10 @@ use Rattle.tables.specs.Rules.{depthRule, hubRule, markRule, groupRule, partner
 use Rattle.tables.specs.Report.{child, groupCarried, stuck, split, ends, lone, machineByte, linkByte, machineBytes, linkBytes}
 use Rattle.tables.specs.Outcome.{answer, addVerdict, reportVerdict, named, addOf}
 use Rattle.sitefile.specs.Record.{bodyLength, whole, bodyOf}
-use Rattle.sitefile.specs.Text.{digits, line, machineLines, uplinkLines, reportText}
-use Rattle.sitefile.specs.File.{inPlace, size, uplink, link, close, report, done, step, prints, printed}
+use Rattle.sitefile.specs.Text.{digits, line, lines, reportText}
+use Rattle.sitefile.specs.File.{dueOf, size, uplink, link, close, report, done, step, prints, printed}
 use Rattle.sitefile.specs.Worked.{files, Worked}
 
 pub worked : Worked
-unfolding least some count tabulate total checks refuseLeast climb hub depthOf sizeVerdict treeVerdict fresh tableSizes over first meet ring due below joined grouped raised linked pairs lengthVerdict endsVerdict batchVerdict after rise depthRule hubRule markRule groupRule partnerRule carriedRule keeps breaks rulesVerdict child groupCarried stuck split ends lone machineByte linkByte machineBytes linkBytes answer addVerdict reportVerdict named addOf bodyLength whole bodyOf digits line machineLines uplinkLines reportText inPlace size uplink link close report done step prints printed files
+unfolding least some count tabulate total checks refuseLeast climb hub depthOf sizeVerdict treeVerdict fresh tableSizes over first meet ring due below joined grouped raised linked pairs lengthVerdict endsVerdict batchVerdict after rise depthRule hubRule markRule groupRule partnerRule carriedRule keeps breaks rulesVerdict child groupCarried stuck split ends lone machineByte linkByte machineBytes linkBytes answer addVerdict reportVerdict named addOf bodyLength whole bodyOf digits line lines reportText dueOf size uplink link close report done step prints printed files
 worked = refl

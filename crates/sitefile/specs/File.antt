@@ -13,6 +13,9 @@ use Rattle.tables.specs.Report.{machineBytes, linkBytes}
 use Rattle.tables.specs.Outcome.{Bytes, addVerdict, addOf, reportVerdict}
 use Rattle.sitefile.specs.Record.{known, bodyLength, bodyOf, word}
 use Rattle.sitefile.specs.Text.{reportText, refusalText}
+use Rattle.sitefile.specs.declared.Reader.{Reader}
+use Rattle.sitefile.specs.declared.due.Due.{Due}
+use Rattle.sitefile.specs.declared.due.Due.the-variants as due
 
 -- a site file has at most so many bytes
 abbrev pub mostBytes : ℕ
@@ -33,6 +36,10 @@ none = record { depth = []; group = []; mark = [] }
 abbrev pub begin : Read
 begin = record { place = 0; n = 0; up = []; tables = none; opened = [] }
 
+-- how far that is, in numbers
+abbrev pub readerOf : Read → Reader
+readerOf r = record { place = r .place; n = r .n; ups = length (r .up); opened = length (r .opened) }
+
 -- a record is read and there is more; a report is due; the file ends as it may; or the code and the value of a refusal
 pub data Next : Type 0 where
   on : Read → Next
@@ -41,19 +48,33 @@ pub data Next : Type 0 where
   stop : ℕ → ℕ → Next
 
 -- the tree is whole: every uplink is read
-abbrev pub grown : Read → Bool
-grown r = ltb 0 (r .n) && eqb (length (r .up)) (r .n)
+abbrev pub grown : Reader → Bool
+grown r = ltb 0 (r .n) && eqb (r .ups) (r .n)
+
+-- and no links are open
+abbrev pub closed : Reader → Bool
+closed r = grown r && eqb (r .opened) 0
 
 -- kind 1 once, kind 2 n times, then kinds 3, 4 and 5; kind 5 with no open links
-unfoldable pub inPlace : Read → ℕ → Bool
-inPlace r kind =
-    cond (eqb kind 1) (eqb (r .n) 0)
-    (cond (eqb kind 2) (ltb (length (r .up)) (r .n))
-    (cond (eqb kind 5) (grown r && eqb (length (r .opened)) 0) (grown r)))
+abbrev pub inPlace : ℕ → Reader → Bool
+inPlace kind r = cond (eqb kind 1) (eqb (r .n) 0) (cond (eqb kind 2) (ltb (r .ups) (r .n)) (cond (eqb kind 5) (closed r) (grown r)))
 
--- the record done, with the place behind it
-abbrev pub behind : Read → ℕ → ℕ
-behind r kind = r .place + 1 + bodyLength kind
+-- what a record of this kind asks for
+abbrev pub asked : ℕ → Due
+asked kind = cond (eqb kind 1) due.Size (cond (eqb kind 2) due.Uplink (cond (eqb kind 3) due.Link (cond (eqb kind 4) due.Close due.Report)))
+
+-- the place behind a record
+abbrev pub behind : ℕ → ℕ → ℕ
+behind place kind = place + 1 + bodyLength kind
+
+-- what is due: 11 unknown kind, 12 known kind out of place, 10 the file ends inside the record, before the last kind 2 or with links not closed
+unfoldable pub dueOf : List ℕ → Reader → Due
+dueOf file r =
+    let kind = at file (r .place) in
+    cond (leb (length file) (r .place)) (cond (closed r) due.End (due.Stop 10 (length file)))
+    (cond (not (known kind)) (due.Stop 11 (r .place))
+    (cond (not (inPlace kind r)) (due.Stop 12 (r .place))
+    (cond (ltb (length file) (behind (r .place) kind)) (due.Stop 10 (length file)) (asked kind))))
 
 -- what one check of a call leads to
 abbrev pub unlessRefused : Verdict → Next → Next
@@ -62,52 +83,48 @@ unlessRefused (Refused code value) next = stop code value
 
 -- kind 1: n, from 1 to 4,096
 unfoldable pub size : Read → ℕ → Next
-size r m = unlessRefused (sizeVerdict m) (on (record { place = behind r 1; n = m; up = []; tables = none; opened = [] }))
+size r m = unlessRefused (sizeVerdict m) (on (record { place = behind (r .place) 1; n = m; up = []; tables = none; opened = [] }))
 
 -- kind 2: the up of the next machine; Start runs after the last
 unfoldable pub uplink : Read → ℕ → Next
 uplink r u =
     let up = r .up ++ (u ∷ []) in
-    cond (ltb (length up) (r .n)) (on (record { place = behind r 2; n = r .n; up = up; tables = none; opened = [] }))
-    (unlessRefused (treeVerdict up) (on (record { place = behind r 2; n = r .n; up = up; tables = fresh up; opened = [] })))
+    cond (ltb (length up) (r .n)) (on (record { place = behind (r .place) 2; n = r .n; up = up; tables = none; opened = [] }))
+    (unlessRefused (treeVerdict up) (on (record { place = behind (r .place) 2; n = r .n; up = up; tables = fresh up; opened = [] })))
 
 -- kind 3: a link; one over the most that a batch may have is refused with the length that the batch would reach
 unfoldable pub link : Read → ℕ → ℕ → Next
 link r a b =
     cond (ltb (length (r .opened)) (2 * mostLinks))
-    (on (record { place = behind r 3; n = r .n; up = r .up; tables = r .tables; opened = r .opened ++ (a ∷ b ∷ []) }))
+    (on (record { place = behind (r .place) 3; n = r .n; up = r .up; tables = r .tables; opened = r .opened ++ (a ∷ b ∷ []) }))
     (stop 7 (2 * mostLinks + 2))
 
 -- kind 4: the open links are added
 unfoldable pub close : Read → Next
 close r =
     unlessRefused (addVerdict (r .up) (r .opened) (r .tables))
-    (on (record { place = behind r 4; n = r .n; up = r .up; tables = addOf (r .up) (r .opened) (r .tables) .lent; opened = [] }))
+    (on (record { place = behind (r .place) 4; n = r .n; up = r .up; tables = addOf (r .up) (r .opened) (r .tables) .lent; opened = [] }))
 
 -- kind 5: a report
 unfoldable pub report : Read → Next
 report r =
     let o : Bytes = record { machines = machineBytes (r .up) (r .tables); links = linkBytes (r .up) (r .tables) } in
     unlessRefused (reportVerdict (r .up) (r .tables) o)
-    (reports (record { place = behind r 5; n = r .n; up = r .up; tables = r .tables; opened = [] }) o)
+    (reports (record { place = behind (r .place) 5; n = r .n; up = r .up; tables = r .tables; opened = [] }) o)
 
--- one record that is known, in place and whole
-unfoldable pub done : Read → ℕ → List ℕ → Next
-done r kind body =
-    cond (eqb kind 1) (size r (word body 0))
-    (cond (eqb kind 2) (uplink r (word body 0))
-    (cond (eqb kind 3) (link r (word body 0) (word body 1))
-    (cond (eqb kind 4) (close r) (report r))))
+-- what is due is done; a record is known, in place and whole by then
+unfoldable pub done : List ℕ → Read → Due → Next
+done file r due.End = ended
+done file r (due.Stop code value) = stop code value
+done file r due.Size = size r (word (bodyOf file (r .place)) 0)
+done file r due.Uplink = uplink r (word (bodyOf file (r .place)) 0)
+done file r due.Link = link r (word (bodyOf file (r .place)) 0) (word (bodyOf file (r .place)) 1)
+done file r due.Close = close r
+done file r due.Report = report r
 
--- the next record: 11 unknown kind, 12 known kind out of place, 10 the file ends inside it, before the last kind 2 or with links not closed
+-- the next record
 unfoldable pub step : List ℕ → Read → Next
-step file r =
-    let kind = at file (r .place) in
-    cond (leb (length file) (r .place)) (cond (grown r && eqb (length (r .opened)) 0) ended (stop 10 (length file)))
-    (cond (not (known kind)) (stop 11 (r .place))
-    (cond (not (inPlace r kind)) (stop 12 (r .place))
-    (cond (ltb (length file) (behind r kind)) (stop 10 (length file))
-    (done r kind (bodyOf file (r .place))))))
+step file r = done file r (dueOf file (readerOf r))
 
 -- what the next k records print
 unfoldable pub prints : ℕ → List ℕ → Read → List ℕ

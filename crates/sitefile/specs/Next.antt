@@ -6,6 +6,9 @@ use lib.ListN.{length, take, drop}
 use lib.Dec.{leb, eqb}
 use Rattle.tables.specs.Tree.{mostMachines}
 use Rattle.tables.specs.Batch.{mostLinks}
+use Rattle.tables.specs.Tables.{Tables}
+use Rattle.tables.specs.Outcome.{Bytes}
+use Rattle.site.specs.Lent.{tablesOf, bytesOf}
 use Rattle.sitefile.specs.File as file
 use Rattle.sitefile.specs.declared.Reader.{Reader}
 use Rattle.sitefile.specs.declared.Step.{Step}
@@ -14,54 +17,50 @@ use Rattle.sitefile.specs.declared.Step.the-variants as steps
 -- the lent slices: one entry a machine, but the batch has the numbers of a whole batch
 pub record Room : Type 0 where
   pub up : List ℕ
-  pub depth : List ℕ
-  pub group : List ℕ
-  pub mark : List ℕ
+  pub tables : Tables
   pub batch : List ℕ
-  pub machines : List ℕ
-  pub links : List ℕ
+  pub outputs : Bytes
 
 -- the seven slices as one
 abbrev pub roomOf : List ℕ → List ℕ → List ℕ → List ℕ → List ℕ → List ℕ → List ℕ → Room
-roomOf up depth group mark batch machines links = record { up = up; depth = depth; group = group; mark = mark; batch = batch; machines = machines; links = links }
+roomOf up depth group mark batch machines links = record { up = up; tables = tablesOf depth group mark; batch = batch; outputs = bytesOf machines links }
 
-abbrev pub roomy : List ℕ → Bool
-roomy slice = eqb (length slice) mostMachines
+-- the slices are of these lengths
+abbrev pub lengthsFit : ℕ → ℕ → ℕ → ℕ → ℕ → ℕ → ℕ → Bool
+lengthsFit up depth group mark batch machines links =
+    eqb up mostMachines && (eqb depth mostMachines && (eqb group mostMachines && (eqb mark mostMachines && (eqb batch (2 * mostLinks) && (eqb machines mostMachines && eqb links mostMachines)))))
 
--- the slices are of the right lengths, and the reader counts no more than they hold, and whole links
-unfoldable pub fits : Reader → Room → Bool
-fits r room =
-    roomy (room .up) && (roomy (room .depth) && (roomy (room .group) && (roomy (room .mark) && (eqb (length (room .batch)) (2 * mostLinks)
-    && (roomy (room .machines) && (roomy (room .links) && (leb (r .n) mostMachines && (leb (r .ups) (r .n) && (leb (r .opened) (2 * mostLinks) && eqb (r .opened % 2) 0)))))))))
+-- the reader counts no more than they hold, and whole links
+abbrev pub countsFit : Reader → Bool
+countsFit r = leb (r .n) mostMachines && (leb (r .ups) (r .n) && (leb (r .opened) (2 * mostLinks) && eqb (r .opened % 2) 0))
 
--- what has been read, as the front parts of the slices have it; the tables once the tree is whole
+unfoldable pub fits : Reader → ℕ → ℕ → ℕ → ℕ → ℕ → ℕ → ℕ → Bool
+fits r up depth group mark batch machines links = lengthsFit up depth group mark batch machines links && countsFit r
+
+-- the first entries of each table
+abbrev pub front : ℕ → Tables → Tables
+front n t = tablesOf (take n (t .depth)) (take n (t .group)) (take n (t .mark))
+
+-- what has been read, as the front parts of the slices have it; the tables have their entries once the tree is whole, and none before
 unfoldable pub readOf : Reader → Room → file.Read
 readOf r room = record {
   place = r .place;
   n = r .n;
   up = take (r .ups) (room .up);
-  tables = cond (eqb (r .ups) (r .n)) (record { depth = take (r .n) (room .depth); group = take (r .n) (room .group); mark = take (r .n) (room .mark) }) file.none;
+  tables = front (cond (eqb (r .ups) (r .n)) (r .n) 0) (room .tables);
   opened = take (r .opened) (room .batch);
 }
 
-abbrev pub readerOf : file.Read → Reader
-readerOf r = record { place = r .place; n = r .n; ups = length (r .up); opened = length (r .opened) }
-
--- a list laid over the front of a slice; the rest stays
+-- a list laid over the front of a slice, and tables over theirs; the rest stays
 abbrev pub laid : List ℕ → List ℕ → List ℕ
 laid l slice = l ++ drop (length l) slice
 
--- the slices once this has been read
-unfoldable pub holding : file.Read → Room → Room
-holding r room = record {
-  up = laid (r .up) (room .up);
-  depth = laid (r .tables .depth) (room .depth);
-  group = laid (r .tables .group) (room .group);
-  mark = laid (r .tables .mark) (room .mark);
-  batch = laid (r .opened) (room .batch);
-  machines = room .machines;
-  links = room .links;
-}
+abbrev pub laidTables : Tables → Tables → Tables
+laidTables t slices = tablesOf (laid (t .depth) (slices .depth)) (laid (t .group) (slices .group)) (laid (t .mark) (slices .mark))
+
+-- the slices once this has been read, with these outputs
+unfoldable pub holding : file.Read → Room → Bytes → Room
+holding r room o = record { up = laid (r .up) (room .up); tables = laidTables (r .tables) (room .tables); batch = laid (r .opened) (room .batch); outputs = o }
 
 pub record Went : Type 0 where
   pub step : Step
@@ -72,12 +71,16 @@ went s room = record { step = s; room = room }
 
 -- a refusal and the end leave every slice as it came
 abbrev pub wentOf : file.Next → Room → Went
-wentOf (file.on r) room = record { step = steps.Read (readerOf r); room = holding r room }
+wentOf (file.on r) room = went (steps.Read (file.readerOf r)) (holding r room (room .outputs))
 wentOf (file.reports r o) room =
-    let h = holding r room in
-    record { step = steps.Report (readerOf r); room = record { up = h .up; depth = h .depth; group = h .group; mark = h .mark; batch = h .batch; machines = laid (o .machines) (room .machines); links = laid (o .links) (room .links) } }
-wentOf file.ended room = record { step = steps.End; room = room }
-wentOf (file.stop code value) room = record { step = steps.Refused code value; room = room }
+    went (steps.Report (file.readerOf r)) (holding r room (bytesOf (laid (o .machines) (room .outputs .machines)) (laid (o .links) (room .outputs .links))))
+wentOf file.ended room = went steps.End room
+wentOf (file.stop code value) room = went (steps.Refused code value) room
 
 unfoldable pub nextOf : List ℕ → Reader → Room → Went
-nextOf bytes r room = cond (fits r room) (wentOf (file.step bytes (readOf r room)) room) (record { step = steps.Unfit; room = room })
+nextOf bytes r room =
+    let t = room .tables in
+    let o = room .outputs in
+    cond (fits r (length (room .up)) (length (t .depth)) (length (t .group)) (length (t .mark)) (length (room .batch)) (length (o .machines)) (length (o .links)))
+    (wentOf (file.step bytes (readOf r room)) room)
+    (went steps.Unfit room)

@@ -20,15 +20,28 @@ decimal n = digits 20 n
 unfoldable pub line : ℕ → ℕ → ℕ → List ℕ
 line letter a b = letter ∷ 32 ∷ (decimal a ++ (32 ∷ (decimal b ++ (10 ∷ []))))
 
+-- a line, but none for the byte 0
+abbrev pub lineFor : ℕ → ℕ → ℕ → ℕ → List ℕ
+lineFor byte letter a b = cond (eqb byte 0) [] (line letter a b)
+
+-- f k, f (k + 1), .., m of them
+unfoldable pub lines : (ℕ → List ℕ) → ℕ → ℕ → List ℕ
+lines f k zero = []
+lines f k (suc m) = f k ++ lines f (suc k) m
+
 -- `M machine byte` for each nonzero byte of the machines from k on, m of them, in number order
-unfoldable pub machineLines : List ℕ → ℕ → ℕ → List ℕ
-machineLines bytes k zero = []
-machineLines bytes k (suc m) = cond (eqb (at bytes k) 0) [] (line 77 k (at bytes k)) ++ machineLines bytes (suc k) m
+abbrev pub machineLine : List ℕ → ℕ → List ℕ
+machineLine bytes v = lineFor (at bytes v) 77 v (at bytes v)
+
+abbrev pub machineLines : List ℕ → ℕ → ℕ → List ℕ
+machineLines bytes k m = lines (machineLine bytes) k m
 
 -- `L machine up` for each choke uplink, likewise
-unfoldable pub uplinkLines : List ℕ → List ℕ → ℕ → ℕ → List ℕ
-uplinkLines up bytes k zero = []
-uplinkLines up bytes k (suc m) = cond (eqb (at bytes k) 0) [] (line 76 k (at up k)) ++ uplinkLines up bytes (suc k) m
+abbrev pub uplinkLine : List ℕ → List ℕ → ℕ → List ℕ
+uplinkLine up bytes v = lineFor (at bytes v) 76 v (at up v)
+
+abbrev pub uplinkLines : List ℕ → List ℕ → ℕ → ℕ → List ℕ
+uplinkLines up bytes k m = lines (uplinkLine up bytes) k m
 
 -- the text of a report: its `M` lines, its `L` lines, then `T chokes links`, the two totals
 unfoldable pub reportText : List ℕ → Bytes → List ℕ

@@ -1,13 +1,13 @@
 -- What stands in a lent buffer once a text is written into it.
 use mathlib.Core.Path.{_≡_}
-use mathlib.Core.Bool.{Bool, true, false, cond, _&&_}
-use mathlib.Core.List.{List, []}
+use mathlib.Core.Bool.{Bool, true, false, _&&_}
+use mathlib.Core.List.{List}
 use Prim.Native.Nat.{ℕ, _+_, _*_, _≤_}
 use lib.ListN.{length}
 use lib.Seq.{sets}
 use lib.Dec.{leb, eqb}
 use Rattle.tables.specs.Tree.{mostMachines}
-use Rattle.sitefile.specs.Text.{line, uplinkLines, reportText, refusalText}
+use Rattle.sitefile.specs.Text.{uplinkLines, reportText, refusalText}
 use Rattle.sitefile.specs.Next.{laid}
 
 -- what a call answers, and the buffer as it leaves it
@@ -28,7 +28,7 @@ unfoldable pub refusalWritten : ℕ → ℕ → List ℕ → Wrote
 refusalWritten code value buffer = written (leb 64 (length buffer)) (refusalText code value) buffer
 
 -- a report asks for 24 bytes a machine and 64 more, for at most 4,096 machines, and for a byte a machine in both outputs
-unfoldable pub reportFits : ℕ → ℕ → ℕ → ℕ → Bool
+abbrev pub reportFits : ℕ → ℕ → ℕ → ℕ → Bool
 reportFits n machines links room = leb n mostMachines && (eqb machines n && (eqb links n && leb (24 * n + 64) room))
 
 unfoldable pub reportWritten : List ℕ → List ℕ → List ℕ → List ℕ → Wrote
@@ -41,10 +41,6 @@ reportWritten up machines links buffer =
 pub record Appends (before : List ℕ) (place : ℕ) (text after : List ℕ) (answer : ℕ) : Type 0 where
   pub bytes : after ≡ sets before place text
   pub next : answer ≡ place + length text
-
--- a line, but none for the byte 0
-abbrev pub lineFor : ℕ → ℕ → ℕ → ℕ → List ℕ
-lineFor byte letter a b = cond (eqb byte 0) [] (line letter a b)
 
 -- both slices have an entry a machine, and there is room for the lines of the uplinks
 pub record Uplinks (up links buffer : List ℕ) (place : ℕ) : Type 0 where

@@ -1,7 +1,7 @@
 // What a site file asks for next: its end, a refusal, or a record that is known, in place and whole.
 ghost use mathlib.Core.Path.{_≡_};
 ghost use Rattle.sitefile.specs.Record.{known};
-ghost use Rattle.sitefile.specs.Reading.{isWhole, isClosed, placed, asked, dueOf};
+ghost use Rattle.sitefile.specs.File.{grown, closed, inPlace, asked, dueOf};
 use crate::Reader;
 use crate::record;
 
@@ -30,34 +30,34 @@ fn known(kind: u8) -> bool
 }
 
 // Whether every uplink is read.
-fn whole(n: usize, ups: usize) -> bool
-    ensures { λ b. ⌜ b ≡ isWhole n ups ⌝ }
+fn grown(r: Reader) -> bool
+    ensures { λ b. ⌜ b ≡ grown r ⌝ }
 {
-    if n == 0 {
+    if r.n == 0 {
         return false;
     }
-    ups == n
+    r.ups == r.n
 }
 
 // Whether every uplink is read, and no links are open.
-fn closed(n: usize, ups: usize, opened: usize) -> bool
-    ensures { λ b. ⌜ b ≡ isClosed n ups opened ⌝ }
+fn closed(r: Reader) -> bool
+    ensures { λ b. ⌜ b ≡ closed r ⌝ }
 {
-    if !whole(n, ups) {
+    if !grown(r) {
         return false;
     }
-    opened == 0
+    r.opened == 0
 }
 
 // Whether a record of this kind may stand here.
-fn in_place(kind: u8, n: usize, ups: usize, opened: usize) -> bool
-    ensures { λ b. ⌜ b ≡ placed kind n ups opened ⌝ }
+fn in_place(kind: u8, r: Reader) -> bool
+    ensures { λ b. ⌜ b ≡ inPlace kind r ⌝ }
 {
     match kind {
-        1 => n == 0,
-        2 => ups < n,
-        5 => closed(n, ups, opened),
-        0 | 3 | 4 | 6..=255 => whole(n, ups),
+        1 => r.n == 0,
+        2 => r.ups < r.n,
+        5 => closed(r),
+        0 | 3 | 4 | 6..=255 => grown(r),
     }
 }
 
@@ -81,7 +81,7 @@ pub fn look(file: &[u8], r: Reader) -> Due
     let len = file.len();
     let place = r.place;
     if len <= place {
-        if closed(r.n, r.ups, r.opened) {
+        if closed(r) {
             return Due::End;
         }
         return Due::Stop(10, len);
@@ -90,7 +90,7 @@ pub fn look(file: &[u8], r: Reader) -> Due
     if !known(kind) {
         return Due::Stop(11, place);
     }
-    if !in_place(kind, r.n, r.ups, r.opened) {
+    if !in_place(kind, r) {
         return Due::Stop(12, place);
     }
     if len - place - 1 < record::body_len(kind) {

@@ -1,15 +1,14 @@
 // One record of each kind, over the lent slices.
 ghost use mathlib.Core.Path.{_≡_};
-ghost use mathlib.Core.Bool.{cond};
 ghost use mathlib.Core.List.{List};
 ghost use Prim.Native.Nat.{ℕ, _+_, _≤_};
 ghost use lib.ListN.{length};
-ghost use lib.Dec.{eqb};
 ghost use Rattle.site.specs.Lent.{tablesOf, outcome};
 ghost use Rattle.sitefile.specs.Next.{Room, roomOf, went};
-ghost use Rattle.sitefile.specs.Reading.{sizeWent, uplinkWent, linkWent, closeWent, reportWent, StartDue, startFront, UplinkDue, LinkDue, CloseDue, ReportDue};
+ghost use Rattle.sitefile.specs.Reading.{leads, StartDue, startFront, UplinkDue, LinkDue, CloseDue, ReportDue};
 use crate::Reader;
 use crate::Step;
+use crate::due::Due;
 use crate::record;
 use site::Answer;
 use site::Site;
@@ -17,7 +16,7 @@ use site::Site;
 // Kind 1: the number of machines.
 pub fn size(file: &[u8], r: Reader) -> Step
     requires { ⌜ r .place + 3 ≤ length (now file) ⌝ }
-    ensures { λ s. ⌜ ((room : Room) → went s room ≡ sizeWent (now (file .entry)) r room) ⌝ }
+    ensures { λ s. ⌜ ((room : Room) → went s room ≡ leads (now (file .entry)) r Due.Size room) ⌝ }
 {
     let place = r.place;
     let body = record::body(file, place);
@@ -38,7 +37,7 @@ pub fn size(file: &[u8], r: Reader) -> Step
 
 // Start over the front parts of the tables.
 fn start(up: &[u16], n: usize, depth: &mut [u16], group: &mut [u16], mark: &mut [u8]) -> Answer
-    requires { ⌜ StartDue n (now up) (now depth) (now group) (now mark) ⌝ }
+    requires { ⌜ StartDue n (length (now up)) (length (now depth)) (length (now group)) (length (now mark)) ⌝ }
     ensures { λ a. ⌜ outcome (a .code) (a .value) (tablesOf (now (depth .exit)) (now (group .exit)) (now (mark .exit)))
         ≡ startFront n (now (up .entry)) (tablesOf (now (depth .entry)) (now (group .entry)) (now (mark .entry))) ⌝ }
 {
@@ -54,9 +53,9 @@ pub fn uplink(
     group: &mut [u16],
     mark: &mut [u8],
 ) -> Step
-    requires { ⌜ UplinkDue (now file) r (now up) (now depth) (now group) (now mark) ⌝ }
+    requires { ⌜ UplinkDue (now file) r (length (now up)) (length (now depth)) (length (now group)) (length (now mark)) ⌝ }
     ensures { λ s. ⌜ ((batch machines links : List ℕ) → went s (roomOf (now (up .exit)) (now (depth .exit)) (now (group .exit)) (now (mark .exit)) batch machines links)
-        ≡ uplinkWent (now (file .entry)) r (roomOf (now (up .entry)) (now (depth .entry)) (now (group .entry)) (now (mark .entry)) batch machines links)) ⌝ }
+        ≡ leads (now (file .entry)) r Due.Uplink (roomOf (now (up .entry)) (now (depth .entry)) (now (group .entry)) (now (mark .entry)) batch machines links)) ⌝ }
 {
     let place = r.place;
     let n = r.n;
@@ -83,9 +82,9 @@ pub fn uplink(
 
 // Kind 3: a link, kept until its batch is closed.
 pub fn link(file: &[u8], r: Reader, batch: &mut [u16]) -> Step
-    requires { ⌜ LinkDue (now file) r (now batch) ⌝ }
+    requires { ⌜ LinkDue (now file) r (length (now batch)) ⌝ }
     ensures { λ s. ⌜ ((up depth group mark machines links : List ℕ) → r .ups ≤ length up → went s (roomOf up depth group mark (now (batch .exit)) machines links)
-        ≡ linkWent (now (file .entry)) r (roomOf up depth group mark (now (batch .entry)) machines links)) ⌝ }
+        ≡ leads (now (file .entry)) r Due.Link (roomOf up depth group mark (now (batch .entry)) machines links)) ⌝ }
 {
     let place = r.place;
     let opened = r.opened;
@@ -103,26 +102,6 @@ pub fn link(file: &[u8], r: Reader, batch: &mut [u16]) -> Step
     })
 }
 
-// The step that an answer of Add comes to.
-fn read_unless(a: Answer, next: Reader) -> Step
-    ensures { λ s. ⌜ s ≡ cond (eqb (a .code) 0) (Step.Read next) (Step.Refused (a .code) (a .value)) ⌝ }
-{
-    if a.code == 0 {
-        return Step::Read(next);
-    }
-    Step::Refused(a.code, a.value)
-}
-
-// The step that an answer of Report comes to.
-fn report_unless(a: Answer, next: Reader) -> Step
-    ensures { λ s. ⌜ s ≡ cond (eqb (a .code) 0) (Step.Report next) (Step.Refused (a .code) (a .value)) ⌝ }
-{
-    if a.code == 0 {
-        return Step::Report(next);
-    }
-    Step::Refused(a.code, a.value)
-}
-
 // Kind 4: the open links are added, over the front parts of the tables.
 pub fn close(
     r: Reader,
@@ -132,9 +111,9 @@ pub fn close(
     mark: &mut [u8],
     batch: &[u16],
 ) -> Step
-    requires { ⌜ CloseDue r (now up) (now depth) (now group) (now mark) (now batch) ⌝ }
-    ensures { λ s. ⌜ ((machines links : List ℕ) → went s (roomOf (now (up .entry)) (now (depth .exit)) (now (group .exit)) (now (mark .exit)) (now (batch .entry)) machines links)
-        ≡ closeWent r (roomOf (now (up .entry)) (now (depth .entry)) (now (group .entry)) (now (mark .entry)) (now (batch .entry)) machines links)) ⌝ }
+    requires { ⌜ CloseDue r (length (now up)) (length (now depth)) (length (now group)) (length (now mark)) (length (now batch)) ⌝ }
+    ensures { λ s. ⌜ ((bytes machines links : List ℕ) → went s (roomOf (now (up .entry)) (now (depth .exit)) (now (group .exit)) (now (mark .exit)) (now (batch .entry)) machines links)
+        ≡ leads bytes r Due.Close (roomOf (now (up .entry)) (now (depth .entry)) (now (group .entry)) (now (mark .entry)) (now (batch .entry)) machines links)) ⌝ }
 {
     let behind = r.place + 1;
     let n = r.n;
@@ -146,15 +125,15 @@ pub fn close(
         &mut mark[..n],
         &batch[..opened],
     );
-    read_unless(
-        a,
-        Reader {
+    if a.code == 0 {
+        return Step::Read(Reader {
             place: behind,
             n,
             ups: n,
             opened: 0,
-        },
-    )
+        });
+    }
+    Step::Refused(a.code, a.value)
 }
 
 // Kind 5: a report, over the front parts of the tables and the outputs.
@@ -167,9 +146,9 @@ pub fn report(
     machines: &mut [u8],
     links: &mut [u8],
 ) -> Step
-    requires { ⌜ ReportDue r (now up) (now depth) (now group) (now mark) (now machines) (now links) ⌝ }
-    ensures { λ s. ⌜ ((batch : List ℕ) → went s (roomOf (now (up .entry)) (now (depth .entry)) (now (group .entry)) (now (mark .entry)) batch (now (machines .exit)) (now (links .exit)))
-        ≡ reportWent r (roomOf (now (up .entry)) (now (depth .entry)) (now (group .entry)) (now (mark .entry)) batch (now (machines .entry)) (now (links .entry)))) ⌝ }
+    requires { ⌜ ReportDue r (length (now up)) (length (now depth)) (length (now group)) (length (now mark)) (length (now machines)) (length (now links)) ⌝ }
+    ensures { λ s. ⌜ ((bytes batch : List ℕ) → went s (roomOf (now (up .entry)) (now (depth .entry)) (now (group .entry)) (now (mark .entry)) batch (now (machines .exit)) (now (links .exit)))
+        ≡ leads bytes r Due.Report (roomOf (now (up .entry)) (now (depth .entry)) (now (group .entry)) (now (mark .entry)) batch (now (machines .entry)) (now (links .entry)))) ⌝ }
 {
     let behind = r.place + 1;
     let n = r.n;
@@ -181,13 +160,13 @@ pub fn report(
         &mut machines[..n],
         &mut links[..n],
     );
-    report_unless(
-        a,
-        Reader {
+    if a.code == 0 {
+        return Step::Report(Reader {
             place: behind,
             n,
             ups: n,
             opened: 0,
-        },
-    )
+        });
+    }
+    Step::Refused(a.code, a.value)
 }

@@ -1,8 +1,6 @@
 // The reader of the site file: one record at a time, over lent slices.
 ghost use mathlib.Core.Path.{_≡_};
-ghost use mathlib.Core.Bool.{_&&_};
-ghost use Rattle.sitefile.specs.Next.{nextOf, roomOf, went};
-ghost use Rattle.sitefile.specs.Reading.{lengthsFit, countsFit};
+ghost use Rattle.sitefile.specs.Next.{lengthsFit, countsFit, fits, nextOf, roomOf, went};
 use crate::Reader;
 use crate::Step;
 use crate::due;
@@ -44,19 +42,19 @@ fn lengths_fit(
 }
 
 // Whether a reader counts no more than the slices hold, and whole links.
-fn counts_fit(n: usize, ups: usize, opened: usize) -> bool
-    ensures { λ b. ⌜ b ≡ countsFit n ups opened ⌝ }
+fn counts_fit(r: Reader) -> bool
+    ensures { λ b. ⌜ b ≡ countsFit r ⌝ }
 {
-    if Site::MACHINES < n {
+    if Site::MACHINES < r.n {
         return false;
     }
-    if n < ups {
+    if r.n < r.ups {
         return false;
     }
-    if 2 * Site::LINKS < opened {
+    if 2 * Site::LINKS < r.opened {
         return false;
     }
-    opened % 2 == 0
+    r.opened % 2 == 0
 }
 
 // Whether the lent slices and the reader fit each other.
@@ -70,12 +68,12 @@ fn fits(
     machines: usize,
     links: usize,
 ) -> bool
-    ensures { λ b. ⌜ b ≡ (lengthsFit up depth group mark batch machines links && countsFit (r .n) (r .ups) (r .opened)) ⌝ }
+    ensures { λ b. ⌜ b ≡ fits r up depth group mark batch machines links ⌝ }
 {
     if !lengths_fit(up, depth, group, mark, batch, machines, links) {
         return false;
     }
-    counts_fit(r.n, r.ups, r.opened)
+    counts_fit(r)
 }
 
 // Reads the next record of a site file. A refusal and the end leave every slice as it came.

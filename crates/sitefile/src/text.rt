@@ -7,8 +7,8 @@ ghost use Prim.Native.Nat.{_+_, _<_, _≤_};
 ghost use lib.ListN.{length};
 ghost use lib.Dec.{eqb};
 ghost use Rattle.tables.specs.Outcome.{named};
-ghost use Rattle.sitefile.specs.Text.{decimal, line, machineLines, uplinkLines};
-ghost use Rattle.sitefile.specs.Written.{Appends, Uplinks, lineFor, wrote, refusalWritten, reportFits, reportWritten};
+ghost use Rattle.sitefile.specs.Text.{decimal, line, lineFor, machineLines, uplinkLines};
+ghost use Rattle.sitefile.specs.Written.{Appends, Uplinks, wrote, refusalWritten, reportFits, reportWritten};
 
 // One byte.
 fn put(out: &mut [u8], at: usize, byte: u8) -> usize

@@ -4,9 +4,6 @@ use borrow.Author.Needs.{needs}
 use Rattle.labels.proofs.answer_one.Statement.{statement}
 use Rattle.labels.proofs.answer_one.Tie as tie
 
-slice-aggregate-print-file : tie.Need-slice-aggregate-print-file
-slice-aggregate-print-file c = search length-take-le
-
 pub answer-one-spec : {M : Type 1} → statement M
 answer-one-spec =
     tie.close
@@ -15,7 +12,7 @@ answer-one-spec =
     (λ c. search needs)
     (λ c. search needs)
     (λ c. search needs)
-    slice-aggregate-print-file
+    (λ c. search length-take-le)
     (λ c κs. search needs)
     (λ c κs. search needs)
     (λ c. search needs)

@@ -4,9 +4,6 @@ use borrow.Author.Needs.{needs}
 use Rattle.labels.proofs.read_next.Statement.{statement}
 use Rattle.labels.proofs.read_next.Tie as tie
 
-slice-aggregate-read-full : tie.Need-slice-aggregate-read-full
-slice-aggregate-read-full c = search length-take-le
-
 pub read-next-spec : {M : Type 1} → statement M
 read-next-spec =
     tie.close
@@ -14,7 +11,7 @@ read-next-spec =
     (λ c κs. search needs)
     (λ c. search needs)
     (λ c. search needs)
-    slice-aggregate-read-full
+    (λ c. search length-take-le)
     (λ c κs. search needs)
     (λ c. search needs)
     (λ c. search needs)

@@ -4,9 +4,6 @@ use borrow.Author.Needs.{needs}
 use Rattle.printer.proofs.write_text.Statement.{statement}
 use Rattle.printer.proofs.write_text.Tie as tie
 
-slice-aggregate-write-all : tie.Need-slice-aggregate-write-all
-slice-aggregate-write-all c = search length-take-le
-
 pub write-text-spec : {M : Type 1} → statement M
 write-text-spec =
-    tie.close (tie.spec slice-aggregate-write-all (λ c κs. search needs) (λ c. search needs) (λ c. search needs))
+    tie.close (tie.spec (λ c. search length-take-le) (λ c κs. search needs) (λ c. search needs) (λ c. search needs))

@@ -5,11 +5,5 @@ use Rattle.site.proofs.Batches.{too-long, by-ends}
 use Rattle.site.proofs.batch.check.Statement.{statement}
 use Rattle.site.proofs.batch.check.Tie as tie
 
-returns : tie.Need-returns
-returns c = search (too-long, not-true)
-
-returns-2 : tie.Need-returns-2
-returns-2 c = search (by-ends, not-false)
-
 pub check-spec : {M : Type 1} → statement M
-check-spec = tie.close (tie.spec (λ c κs. search needs) returns (λ c κs. search needs) returns-2)
+check-spec = tie.close (tie.spec (λ c κs. search needs) (λ c. search (too-long, not-true)) (λ c κs. search needs) (λ c. search (by-ends, not-false)))

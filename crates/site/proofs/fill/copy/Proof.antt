@@ -18,9 +18,6 @@ abbrev μ-loop : tie.MeasureT-loop
 loop-holds : tie.Need-loop-holds Inv-loop μ-loop
 loop-holds c = fill-start _ _
 
-loop-again : tie.Need-loop-again Inv-loop μ-loop
-loop-again c = search (fill-next, needs)
-
 returns : tie.Need-returns Inv-loop μ-loop
 returns c = fill-end (omega arith) (c .before .loop .inv) ∙ ap (λ n. tabulate n (at (c .before .before .args .from .now))) (c .before .before .pre) ∙ by-entries _
 
@@ -37,6 +34,6 @@ copy-spec =
     (λ c. search needs)
     (λ c. search needs)
     (λ c. search needs)
-    loop-again
+    (λ c. search (fill-next, needs))
     (λ c. search needs)
     returns)

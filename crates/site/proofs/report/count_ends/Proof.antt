@@ -20,12 +20,6 @@ loop-holds c = counted-none _ _
 add-n : tie.Need-add-n Inv-loop μ-loop
 add-n c = let q = counted-more (c .before .before .before .loop .inv) (c .before .before .loop-test .taken) (c .before .ends .ensures) (c .one .ensures) in omega arith
 
-loop-again : tie.Need-loop-again Inv-loop μ-loop
-loop-again c = search counted-more
-
-returns : tie.Need-returns Inv-loop μ-loop
-returns c = search counted-all
-
 pub count-ends-spec : {M : Type 1} → statement M
 count-ends-spec =
     tie.close
@@ -38,5 +32,5 @@ count-ends-spec =
     add-n
     (λ c. search needs)
     (λ c. search needs)
-    loop-again
-    returns)
+    (λ c. search counted-more)
+    (λ c. search counted-all))

@@ -24,9 +24,6 @@ loop-holds c = counted-none _ _
 add-n : tie.Need-add-n Inv-loop μ-loop
 add-n c = let q = counted-more (c .before .before .before .loop .inv) (c .before .before .loop-test .taken) refl (c .one .ensures) in omega arith
 
-loop-again : tie.Need-loop-again Inv-loop μ-loop
-loop-again c = search counted-more
-
 returns : tie.Need-returns Inv-loop μ-loop
 unfolding named
 returns c = search counted-all
@@ -43,5 +40,5 @@ count-named-spec =
     add-n
     (λ c. search needs)
     (λ c. search needs)
-    loop-again
+    (λ c. search counted-more)
     returns)

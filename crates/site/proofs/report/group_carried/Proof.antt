@@ -1,30 +1,20 @@
 -- `report::group_carried`: a search; the invariant: no machine below m passes the test.
-use Prim.Native.Nat.{_≤_, _-_}
-use native.Mathlib.Omega.{arith}
+use Prim.Native.Nat.{_-_}
 use lib.ListN.{length}
 use borrow.Author.Needs.{needs}
-use Rattle.plain.proofs.Loops.{NoneBelow, found, missed, unfound}
 use Rattle.site.specs.ReportFill.{carriedMember}
+use Rattle.site.proofs.Searching.{Searched, start, tested, next, some-here, some-none}
 use Rattle.site.proofs.report.group_carried.Statement.{statement}
 use Rattle.site.proofs.report.group_carried.Tie as tie
 
 abbrev Inv-loop : tie.InvT-loop
-Inv-loop group mark g m₀ m = (m ≤ length group) × NoneBelow (carriedMember group mark g) m
+Inv-loop group mark g m₀ m = Searched (length group) (carriedMember group mark g) m
 
 abbrev μ-loop : tie.MeasureT-loop
 μ-loop group mark g m₀ m = length group - m
 
 loop-holds : tie.Need-loop-holds Inv-loop μ-loop
-loop-holds c = (omega arith, λ k h. absurd (omega arith))
-
-returns : tie.Need-returns Inv-loop μ-loop
-returns c = search found
-
-loop-again : tie.Need-loop-again Inv-loop μ-loop
-loop-again c = search (missed, needs)
-
-returns-2 : tie.Need-returns-2 Inv-loop μ-loop
-returns-2 c = search unfound
+loop-holds c = start _ _
 
 pub group-carried-spec : {M : Type 1} → statement M
 group-carried-spec =
@@ -34,8 +24,8 @@ group-carried-spec =
     μ-loop
     loop-holds
     (λ c κs. search needs)
-    returns
+    (λ c. search (some-here, tested))
     (λ c. search needs)
     (λ c. search needs)
-    loop-again
-    returns-2)
+    (λ c. search (next, tested))
+    (λ c. search some-none))

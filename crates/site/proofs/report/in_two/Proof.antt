@@ -4,12 +4,6 @@ use Rattle.site.proofs.Keeping.{stop, on}
 use Rattle.site.proofs.report.in_two.Statement.{statement}
 use Rattle.site.proofs.report.in_two.Tie as tie
 
-returns : tie.Need-returns
-returns c = search stop
-
-returns-2 : tie.Need-returns-2
-returns-2 c = search (on, stop)
-
 returns-3 : tie.Need-returns-3
 returns-3 c = on (c .before .before .before .before .before .child .ensures) (c .before .before .before .before .if1 .left)
     (on (c .before .before .before .child2 .ensures) (c .before .before .if2 .left)
@@ -20,9 +14,9 @@ in-two-spec =
     tie.close
     (tie.spec
     (λ c κs. search needs)
-    returns
+    (λ c. search stop)
     (λ c κs. search needs)
-    returns-2
+    (λ c. search (on, stop))
     (λ c κs. search needs)
     (λ c κs. search needs)
     returns-3)

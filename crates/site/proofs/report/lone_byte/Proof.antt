@@ -4,10 +4,10 @@ use Rattle.site.proofs.report.lone_byte.Statement.{statement}
 use Rattle.site.proofs.report.lone_byte.Tie as tie
 
 returns : tie.Need-returns
-returns c = λ d g. rw (← c .before .lone .ensures d g, c .if1 .taken)
+returns c = rw (← c .before .lone .ensures, c .if1 .taken)
 
 returns-2 : tie.Need-returns-2
-returns-2 c = λ d g. rw (← c .before .lone .ensures d g, c .if1 .left)
+returns-2 c = rw (← c .before .lone .ensures, c .if1 .left)
 
 pub lone-byte-spec : {M : Type 1} → statement M
 lone-byte-spec = tie.close (tie.spec (λ c κs. search needs) returns returns-2)

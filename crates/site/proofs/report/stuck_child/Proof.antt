@@ -7,12 +7,11 @@ use Rattle.site.proofs.report.stuck_child.Tie as tie
 
 returns : tie.Need-returns
 unfolding groupCarried
-returns c = λ d. search stop
+returns c = search stop
 
 returns-2 : tie.Need-returns-2
 unfolding groupCarried
-returns-2 c = λ d.
-    on (c .before .before .before .child .ensures) (c .before .before .if1 .left)
+returns-2 c = on (c .before .before .before .child .ensures) (c .before .before .if1 .left)
     (rw (c .group-carried .ensures, c .before .at .ensures, c .before .before .before .before .before .before .before .pre .0 .group-size))
 
 pub stuck-child-spec : {M : Type 1} → statement M

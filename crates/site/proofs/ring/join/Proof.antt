@@ -4,9 +4,6 @@ use borrow.Author.Needs.{needs}
 use Rattle.site.proofs.ring.join.Statement.{statement}
 use Rattle.site.proofs.ring.join.Tie as tie
 
-returns : tie.Need-returns
-returns c = search joined-by
-
 pub join-spec : {M : Type 1} → statement M
 join-spec =
     tie.close
@@ -19,4 +16,4 @@ join-spec =
     (λ c κs. search needs)
     (λ c κs. search needs)
     (λ c. search needs)
-    returns)
+    (λ c. search joined-by))

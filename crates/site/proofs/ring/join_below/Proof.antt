@@ -4,14 +4,5 @@ use borrow.Author.Needs.{needs}
 use Rattle.site.proofs.ring.join_below.Statement.{statement}
 use Rattle.site.proofs.ring.join_below.Tie as tie
 
-returns : tie.Need-returns
-returns c = search eq-eqb
-
-returns-2 : tie.Need-returns-2
-returns-2 c = search (ne-eqb, eq-eqb)
-
-returns-3 : tie.Need-returns-3
-returns-3 c = search ne-eqb
-
 pub join-below-spec : {M : Type 1} → statement M
-join-below-spec = tie.close (tie.spec returns returns-2 (λ c κs. search needs) (λ c. search needs) returns-3)
+join-below-spec = tie.close (tie.spec (λ c. search eq-eqb) (λ c. search (ne-eqb, eq-eqb)) (λ c κs. search needs) (λ c. search needs) (λ c. search ne-eqb))

@@ -12,35 +12,8 @@ Inv-loop up mark₀ a w v₀ top₀ rise₀ mark v top rise = Rising up mark₀ 
 abbrev μ-loop : tie.MeasureT-loop
 μ-loop up mark₀ a w v₀ top₀ rise₀ mark v top rise = depthOf up v
 
-loop-holds : tie.Need-loop-holds Inv-loop μ-loop
-loop-holds c = search start
-
-at-requires : tie.Need-at-requires Inv-loop μ-loop
-at-requires c κs = search here
-
-slice-read-m : tie.Need-slice-read-m Inv-loop μ-loop
-slice-read-m c = search (here, needs)
-
-sub-rise : tie.Need-sub-rise Inv-loop μ-loop
-sub-rise c = omega arith
-
-cast-rise : tie.Need-cast-rise Inv-loop μ-loop
-cast-rise c = omega arith
-
 add-rise : tie.Need-add-rise Inv-loop μ-loop
 add-rise c = let l = c .before .before .before .before .before in omega (arith, bound (l .before .before .before .pre) (l .loop .inv), l .before .before .before .pre .few)
-
-slice-write-mark : tie.Need-slice-write-mark Inv-loop μ-loop
-slice-write-mark c = search (here, needs)
-
-loop-less : tie.Need-loop-less Inv-loop μ-loop
-loop-less c = search falls
-
-loop-again : tie.Need-loop-again Inv-loop μ-loop
-loop-again c = search next
-
-returns : tie.Need-returns Inv-loop μ-loop
-returns c = search end
 
 pub raise-spec : {M : Type 1} → statement M
 raise-spec =
@@ -48,16 +21,16 @@ raise-spec =
     (tie.spec
     Inv-loop
     μ-loop
-    loop-holds
-    at-requires
-    slice-read-m
+    (λ c. search start)
+    (λ c κs. search here)
+    (λ c. search (here, needs))
     (λ c κs. search needs)
     (λ c κs. search needs)
-    sub-rise
-    cast-rise
+    (λ c. omega arith)
+    (λ c. omega arith)
     add-rise
-    slice-write-mark
-    loop-less
-    loop-again
+    (λ c. search (here, needs))
+    (λ c. search falls)
+    (λ c. search next)
     (λ c. search needs)
-    returns)
+    (λ c. search end))

@@ -16,12 +16,6 @@ abbrev μ-loop : tie.MeasureT-loop
 loop-holds : tie.Need-loop-holds Inv-loop μ-loop
 loop-holds c = map-start _ _
 
-loop-again : tie.Need-loop-again Inv-loop μ-loop
-loop-again c = search map-next
-
-returns : tie.Need-returns Inv-loop μ-loop
-returns c = search map-end
-
 pub relabel-spec : {M : Type 1} → statement M
 relabel-spec =
     tie.close
@@ -36,6 +30,6 @@ relabel-spec =
     (λ c. search needs)
     (λ c. search needs)
     (λ c. search needs)
-    loop-again
+    (λ c. search map-next)
     (λ c. search needs)
-    returns)
+    (λ c. search map-end))

@@ -2,8 +2,9 @@
 use native.Mathlib.Numerals.{add-one}
 use native.Mathlib.Omega.{arith}
 use borrow.Author.Needs.{needs}
+use borrow.Author.Tests.{eq-eqb, ne-eqb}
 use Rattle.tables.specs.Rules.{depthRule}
-use Rattle.site.proofs.Keeping.{at-hub, off-hub}
+use Rattle.site.proofs.Keeping.{is-hub, not-hub}
 use Rattle.site.proofs.rules.depth_rule.Statement.{statement}
 use Rattle.site.proofs.rules.depth_rule.Tie as tie
 
@@ -12,12 +13,12 @@ add-result c = omega (arith, c .before .before .before .before .shared-slice-kno
 
 returns : tie.Need-returns
 unfolding depthRule
-returns c = λ g m. rw (at-hub _ (c .before .before .before .before .pre .top) (c .before .if1 .taken), ← c .at .ensures)
+returns c = search (eq-eqb, is-hub, ← c .at .ensures)
 
 returns-2 : tie.Need-returns-2
 unfolding depthRule
-returns-2 c = λ g m.
-    rw (off-hub _ (c .before .before .before .before .before .before .pre .top) (c .before .before .before .if1 .left), ← c .before .before .at2 .ensures, ← c .before .at3 .ensures, ← c .at4 .ensures, add-one)
+returns-2 c = let top = c .before .before .before .before .before .before .pre .top in
+    rw (ne-eqb _ _ (not-hub top (c .before .before .before .if1 .left)), ← c .before .before .at2 .ensures, ← c .before .at3 .ensures, ← c .at4 .ensures, add-one)
 
 pub depth-rule-spec : {M : Type 1} → statement M
 depth-rule-spec =

@@ -9,11 +9,11 @@ use Rattle.site.proofs.rules.mark_rule.Tie as tie
 
 returns : tie.Need-returns
 unfolding markRule
-returns c = λ d g. let a = c .before .before .args in rw (le-leb (at (a .mark .now) (a .v)) 2 (omega arith))
+returns c = let a = c .before .before .args in rw (le-leb (at (a .mark .now) (a .v)) 2 (omega arith))
 
 returns-2 : tie.Need-returns-2
 unfolding markRule
-returns-2 c = λ d g. search lt-leb
+returns-2 c = search lt-leb
 
 pub mark-rule-spec : {M : Type 1} → statement M
 mark-rule-spec = tie.close (tie.spec (λ c. search needs) returns returns-2)

@@ -11,23 +11,11 @@ Inv-loop up known₀ v depth x₀ d₀ known x d = LaidTo up known₀ v known x 
 abbrev μ-loop : tie.MeasureT-loop
 μ-loop up known₀ v depth x₀ d₀ known x d = d
 
-loop-holds : tie.Need-loop-holds Inv-loop μ-loop
-loop-holds c = search lay-start
-
 cast-x : tie.Need-cast-x Inv-loop μ-loop
 cast-x c = omega (arith, c .shared-slice-known .given (c .before .before .before .loop .x))
 
-sub-d : tie.Need-sub-d Inv-loop μ-loop
-sub-d c = search lay-deep
-
 loop-less : tie.Need-loop-less Inv-loop μ-loop
 loop-less c = omega (arith, lay-deep (c .before .if1 .taken) (c .before .before .before .loop .inv))
-
-loop-again : tie.Need-loop-again Inv-loop μ-loop
-loop-again c = search lay-next
-
-returns : tie.Need-returns Inv-loop μ-loop
-returns c = search lay-end
 
 pub lay-spec : {M : Type 1} → statement M
 lay-spec =
@@ -35,7 +23,7 @@ lay-spec =
     (tie.spec
     Inv-loop
     μ-loop
-    loop-holds
+    (λ c. search lay-start)
     (λ c. search needs)
     (λ c. search needs)
     (λ c. search needs)
@@ -44,8 +32,8 @@ lay-spec =
     (λ c. search needs)
     (λ c. search needs)
     cast-x
-    sub-d
+    (λ c. search lay-deep)
     loop-less
-    loop-again
+    (λ c. search lay-next)
     (λ c. search needs)
-    returns)
+    (λ c. search lay-end))

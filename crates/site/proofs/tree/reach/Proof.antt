@@ -13,18 +13,6 @@ Inv-loop up known₀ top v₀ known v = Reaching up known v
 abbrev μ-loop : tie.MeasureT-loop
 μ-loop up known₀ top v₀ known v = length up - v
 
-mul-known : tie.Need-mul-known Inv-loop μ-loop
-mul-known c = omega arith
-
-slice-write-known : tie.Need-slice-write-known Inv-loop μ-loop
-slice-write-known c = omega arith
-
-loop-holds : tie.Need-loop-holds Inv-loop μ-loop
-loop-holds c = search reach-start
-
-until-requires : tie.Need-until-requires Inv-loop μ-loop
-until-requires c κs = search reach-climb
-
 returns : tie.Need-returns Inv-loop μ-loop
 returns c = reach-stray
     (c .before .before .before .before .before .before .before .before .before .before .before .before .pre)
@@ -39,17 +27,11 @@ cast-depth c = omega (arith, c .slice-known3 .given (c .before .before .until .r
 add-depth : tie.Need-add-depth Inv-loop μ-loop
 add-depth c = omega (arith, c .slice-known3 .given (c .before .before .until .result .at))
 
-lay-requires : tie.Need-lay-requires Inv-loop μ-loop
-lay-requires c κs = search reach-lay
-
 loop-again : tie.Need-loop-again Inv-loop μ-loop
 loop-again c = reach-next
     (omega arith)
     (c .before .before .lay .ensures)
     (c .before .before .before .before .before .before .before .before .before .loop .inv)
-
-returns-2 : tie.Need-returns-2 Inv-loop μ-loop
-returns-2 c = search reach-end
 
 pub reach-spec : {M : Type 1} → statement M
 reach-spec =
@@ -59,19 +41,19 @@ reach-spec =
     μ-loop
     (λ c κs. search needs)
     (λ c κs. search needs)
-    mul-known
-    slice-write-known
-    loop-holds
-    until-requires
+    (λ c. omega arith)
+    (λ c. omega arith)
+    (λ c. search reach-start)
+    (λ c κs. search reach-climb)
     (λ c. search needs)
     returns
     (λ c. search needs)
     (λ c. search needs)
     cast-depth
     add-depth
-    lay-requires
+    (λ c κs. search reach-lay)
     (λ c. search needs)
     (λ c. search needs)
     loop-again
     (λ c. search needs)
-    returns-2)
+    (λ c. search reach-end))

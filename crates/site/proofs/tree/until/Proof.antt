@@ -14,20 +14,8 @@ Inv-loop up known v k₀ x₀ k x = Climbed up known v k x
 abbrev μ-loop : tie.MeasureT-loop
 μ-loop up known v k₀ x₀ k x = length up - k
 
-loop-holds : tie.Need-loop-holds Inv-loop μ-loop
-loop-holds c = search climb-start
-
-returns : tie.Need-returns Inv-loop μ-loop
-returns c = search climb-here
-
 cast-x : tie.Need-cast-x Inv-loop μ-loop
 cast-x c = omega (arith, c .shared-slice-known2 .given (c .before .before .before .before .loop .x))
-
-loop-again : tie.Need-loop-again Inv-loop μ-loop
-loop-again c = search climb-next
-
-returns-2 : tie.Need-returns-2 Inv-loop μ-loop
-returns-2 c = search climb-end
 
 pub until-spec : {M : Type 1} → statement M
 until-spec =
@@ -35,14 +23,14 @@ until-spec =
     (tie.spec
     Inv-loop
     μ-loop
-    loop-holds
+    (λ c. search climb-start)
     (λ c. search needs)
     (λ c. search needs)
-    returns
+    (λ c. search climb-here)
     (λ c. search needs)
     (λ c. search needs)
     cast-x
     (λ c. search needs)
     (λ c. search needs)
-    loop-again
-    returns-2)
+    (λ c. search climb-next)
+    (λ c. search climb-end))

@@ -4,8 +4,5 @@ use borrow.Author.Needs.{needs}
 use Rattle.sitefile.proofs.record.byte.Statement.{statement}
 use Rattle.sitefile.proofs.record.byte.Tie as tie
 
-returns-2 : tie.Need-returns-2
-returns-2 c = search List·getD-eq-default
-
 pub byte-spec : {M : Type 1} → statement M
-byte-spec = tie.close (tie.spec (λ c. search needs) (λ c. search needs) returns-2)
+byte-spec = tie.close (tie.spec (λ c. search needs) (λ c. search needs) (λ c. search List·getD-eq-default))

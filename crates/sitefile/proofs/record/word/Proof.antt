@@ -4,14 +4,11 @@ use Rattle.sitefile.proofs.Bodies.{word-past}
 use Rattle.sitefile.proofs.record.word.Statement.{statement}
 use Rattle.sitefile.proofs.record.word.Tie as tie
 
-returns : tie.Need-returns
-returns c = search word-past
-
 pub word-spec : {M : Type 1} → statement M
 word-spec =
     tie.close
     (tie.spec
-    returns
+    (λ c. search word-past)
     (λ c. search needs)
     (λ c κs. search needs)
     (λ c. search needs)

@@ -4,8 +4,8 @@ use native.Mathlib.Omega.{arith}
 use borrow.Author.Needs.{needs}
 use borrow.Fn.Kinds.{In}
 use borrow.Fn.PlainCycle.{Measures, is, falls, and}
-use Rattle.sitefile.proofs.Appending.{then, reworded}
-use Rattle.sitefile.proofs.Digits.{one-digit, last-digit, room-one, room-tenth, room-last}
+use Rattle.sitefile.proofs.Appending.{reworded}
+use Rattle.sitefile.proofs.Digits.{one-digit, all-digits, room-one, room-tenth, room-last}
 use Rattle.sitefile.proofs.text.+decimal.{statement}
 use Rattle.sitefile.proofs.text.+decimal.Tie.{close}
 use Rattle.sitefile.proofs.text.decimal.Reads as decimal
@@ -27,51 +27,16 @@ decimal-below t = and 1 decimal-kinds.ps (falls 1 decimal-kinds.ps _<_ μ-decima
 abbrev claims : ℕ → decimal-lts.Claims
 claims t = (put-reads.Asked, put-reads.Learnt, decimal-below t, decimal.Post)
 
-decimal-cast-put : (t : ℕ) → decimal-lts.Need-cast-put (claims t) (decimal-at t) decimal.Post
-decimal-cast-put t c = search needs
-
-decimal-add-put : (t : ℕ) → decimal-lts.Need-add-put (claims t) (decimal-at t) decimal.Post
-decimal-add-put t c = search needs
-
-decimal-put-requires : (t : ℕ) → decimal-lts.Need-put-requires (claims t) (decimal-at t) decimal.Post
-decimal-put-requires t c κs = let b = c .before .before .before in room-one (b .args .at) (b .args .n) (b .args .out .now) (b .pre .1) (c .before .if1 .taken)
-
-decimal-same-length : (t : ℕ) → decimal-lts.Need-same-length (claims t) (decimal-at t) decimal.Post
-decimal-same-length t c = search needs
-
-decimal-returns : (t : ℕ) → decimal-lts.Need-returns (claims t) (decimal-at t) decimal.Post
-decimal-returns t c = reworded (one-digit (c .before .before .before .before .before .before .args .n) (c .before .before .before .before .if1 .taken)) (c .before .before .put .ensures)
-
-decimal-decimal-requires : (t : ℕ) → decimal-lts.Need-decimal-requires (claims t) (decimal-at t) decimal.Post
-decimal-decimal-requires t c κs = let b = c .before .before .before in
-    (omega (arith, b .pre .0), room-tenth (b .args .at) (b .args .n) (b .args .out .now) (b .pre .1) (c .before .if1 .left) (omega arith))
-
-decimal-cast-put-2 : (t : ℕ) → decimal-lts.Need-cast-put-2 (claims t) (decimal-at t) decimal.Post
-decimal-cast-put-2 t c = search needs
-
-decimal-add-put-2 : (t : ℕ) → decimal-lts.Need-add-put-2 (claims t) (decimal-at t) decimal.Post
-decimal-add-put-2 t c = search needs
-
-decimal-put-requires-2 : (t : ℕ) → decimal-lts.Need-put-requires-2 (claims t) (decimal-at t) decimal.Post
-decimal-put-requires-2 t c κs = let b = c .before .before .before .before .before .before .before in
-    room-last (b .args .at) (b .args .n) (b .args .out .now) (b .pre .1) (c .before .before .before .before .before .if1 .left) (omega arith) (c .before .before .before .decimal .ensures)
-
-decimal-same-length-2 : (t : ℕ) → decimal-lts.Need-same-length-2 (claims t) (decimal-at t) decimal.Post
-decimal-same-length-2 t c = search needs
-
-decimal-returns-2 : (t : ℕ) → decimal-lts.Need-returns-2 (claims t) (decimal-at t) decimal.Post
-decimal-returns-2 t c = reworded (last-digit (c .before .before .before .before .before .before .before .before .before .before .args .n) (c .before .before .before .before .before .before .before .before .if1 .left) (omega arith)) (then (c .before .before .before .before .before .before .decimal .ensures) (c .before .before .put2 .ensures))
-
 pub +decimal-spec : {M : Type 1} → statement M
 +decimal-spec = close μ-decimal λ t. decimal-lts.spec (claims t) (decimal-at t) decimal.Post
-    (decimal-cast-put t)
-    (decimal-add-put t)
-    (decimal-put-requires t)
-    (decimal-same-length t)
-    (decimal-returns t)
-    (decimal-decimal-requires t)
-    (decimal-cast-put-2 t)
-    (decimal-add-put-2 t)
-    (decimal-put-requires-2 t)
-    (decimal-same-length-2 t)
-    (decimal-returns-2 t)
+    (λ c. search needs)
+    (λ c. search needs)
+    (λ c κs. search room-one)
+    (λ c. search needs)
+    (λ c. search (reworded, one-digit))
+    (λ c κs. (omega (arith, c .before .before .before .pre .0), search (room-tenth, arith)))
+    (λ c. search needs)
+    (λ c. search needs)
+    (λ c κs. search (room-last, arith))
+    (λ c. search needs)
+    (λ c. search (all-digits, arith))

@@ -18,14 +18,8 @@ Inv-loop bytes sum₀ k₀ sum k = Counted (length bytes) (λ x. not (eqb (at by
 abbrev μ-loop : tie.MeasureT-loop
 μ-loop bytes sum₀ k₀ sum k = length bytes - k
 
-loop-holds : tie.Need-loop-holds Inv-loop μ-loop
-loop-holds c = counted-none _ _
-
 add-sum : tie.Need-add-sum Inv-loop μ-loop
 add-sum c = let q = counted-more (c .before .before .before .loop .inv) (c .before .before .loop-test .taken) refl (c .one-for .ensures) in omega arith
-
-loop-again : tie.Need-loop-again Inv-loop μ-loop
-loop-again c = search counted-more
 
 returns : tie.Need-returns Inv-loop μ-loop
 unfolding named
@@ -37,11 +31,11 @@ named-spec =
     (tie.spec
     Inv-loop
     μ-loop
-    loop-holds
+    (λ c. counted-none _ _)
     (λ c. search needs)
     (λ c κs. search needs)
     add-sum
     (λ c. search needs)
     (λ c. search needs)
-    loop-again
+    (λ c. search counted-more)
     returns)

@@ -6,12 +6,12 @@ use Rattle.sitefile.proofs.OneLine.{same-line}
 use Rattle.sitefile.proofs.text.totals.Statement.{statement}
 use Rattle.sitefile.proofs.text.totals.Tie as tie
 
-line-requires : tie.Need-line-requires
-line-requires c κs = search (room-reworded, sym, same-line)
-
-returns : tie.Need-returns
-returns c = search (reworded, same-line)
-
 pub totals-spec : {M : Type 1} → statement M
 totals-spec =
-    tie.close (tie.spec (λ c κs. search needs) (λ c κs. search needs) line-requires (λ c. search needs) returns)
+    tie.close
+    (tie.spec
+    (λ c κs. search needs)
+    (λ c κs. search needs)
+    (λ c κs. search (room-reworded, sym, same-line))
+    (λ c. search needs)
+    (λ c. search (reworded, same-line)))
