@@ -29,14 +29,14 @@ unfoldable pub lines : (ℕ → List ℕ) → ℕ → ℕ → List ℕ
 lines f k zero = []
 lines f k (suc m) = f k ++ lines f (suc k) m
 
--- `M machine byte` for each nonzero byte of the machines from k on, m of them, in number order
+-- `M machine byte` where the byte is not 0; the lines of the machines from k on, m of them, in number order
 abbrev pub machineLine : List ℕ → ℕ → List ℕ
 machineLine bytes v = lineFor (at bytes v) 77 v (at bytes v)
 
 abbrev pub machineLines : List ℕ → ℕ → ℕ → List ℕ
 machineLines bytes k m = lines (machineLine bytes) k m
 
--- `L machine up` for each choke uplink, likewise
+-- `L machine up` for a choke uplink; the lines likewise
 abbrev pub uplinkLine : List ℕ → List ℕ → ℕ → List ℕ
 uplinkLine up bytes v = lineFor (at bytes v) 76 v (at up v)
 

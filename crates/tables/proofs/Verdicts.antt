@@ -2,7 +2,7 @@
 -- and checks with other codes have passed.
 use mathlib.Core.Path.{_≡_, refl}
 use mathlib.Core.Bool.{Bool, true, false, cond}
-use mathlib.Core.List.{List, [], _∷_, _++_}
+use mathlib.Core.List.{List, [], _∷_}
 use mathlib.Core.Logic.{_≢_, _⊎_, inl, inr}
 use Prim.Native.Nat.{ℕ, _<_}
 use native.Mathlib.Omega.{arith}
@@ -46,20 +46,6 @@ pub checks-one : (v : Verdict) → checks (v ∷ []) ≡ v
 unfolding checks
 checks-one Sound = refl
 checks-one (Refused c p) = refl
-
--- some checks may run as one
-pub checks-append : (vs ws : List Verdict) → checks (checks vs ∷ ws) ≡ checks (vs ++ ws)
-unfolding checks
-checks-append [] ws = refl
-checks-append (Sound ∷ vs) ws = checks-append vs ws
-checks-append (Refused c p ∷ vs) ws = refl
-
--- and what runs later may be exchanged for what says the same
-pub checks-then : (us vs ws : List Verdict) → checks vs ≡ checks ws → checks (us ++ vs) ≡ checks (us ++ ws)
-unfolding checks
-checks-then [] vs ws e = e
-checks-then (Sound ∷ us) vs ws e = checks-then us vs ws e
-checks-then (Refused c p ∷ us) vs ws e = refl
 
 -- no refusal of this check has code k
 abbrev pub Avoids : ℕ → Verdict → Type 0
