@@ -1,30 +1,29 @@
 -- How a call's answer follows its checks: one that refuses is the answer, and what was lent is as it came; where all have passed, it is done.
 use mathlib.Core.Path.{_≡_, refl, sym, ap, _∙_}
-use mathlib.Core.List.{List, [], _++_}
-use Prim.Native.Nat.{ℕ, _≤_}
+use mathlib.Core.List.{List, []}
+use Prim.Native.Nat.{ℕ}
 use native.Mathlib.Omega.{arith}
-use lib.ListN.{length, replicate, take, length-append}
-use lib.Seq.{take-at}
+use lib.ListN.{length, replicate}
 use Rattle.plain.specs.Table.{tabulate, total}
 use Rattle.tables.specs.Verdict.{Verdict}
 use Rattle.tables.specs.Tree.{hub, treeVerdict}
 use Rattle.tables.specs.Tables.{Tables, fresh}
 use Rattle.tables.specs.Batch.{pairs, after, rise}
 use Rattle.tables.specs.Report.{groupCarried, stuck, split, lone, machineByte, linkByte, machineBytes, linkBytes}
-use Rattle.tables.specs.Outcome.{answer, named, startVerdict, startOf, addVerdict, addOf, reportVerdict, reportOf}
+use Rattle.tables.specs.Outcome.{Answer, answer, named, startOf, addVerdict, addOf, reportVerdict, reportOf}
 use Rattle.tables.proofs.Sound.{sound-tree}
 use Rattle.tables.proofs.Histories as histories
 use Rattle.tables.proofs.Rise.{rise-is}
 use Rattle.site.specs.Lent.{tablesOf, bytesOf, outcome}
 use Rattle.site.specs.Check.{codeOf, placeOf, verdictOf}
-use Rattle.site.specs.Checked.{sizesVerdict, Sizes, Lengths}
+use Rattle.site.specs.Checked.{sizesVerdict, Lengths}
 use Rattle.site.specs.TreeCheck.{Reached}
 use Rattle.site.specs.RingStep.{Ready, Applied}
 use Rattle.site.specs.ReportFill.{linkByteAt, ReportSized, ReportFilled}
 use Rattle.site.specs.declared.Check.{Check}
 use Rattle.site.specs.declared.Check.the-variants as check
 use Rattle.site.specs.declared.Fault.{Fault}
-use Rattle.site.proofs.Checking.{told, sizes-passed, add-passed, report-passed}
+use Rattle.site.proofs.Checking.{told, goes-on, ends, start-by, add-passed, report-passed}
 
 module _ {A : Type 0} (came : A) (value : ℕ) (done : A) {c : Check} {v : Verdict} where
   pub refused : {why : Fault} {place rc rv : ℕ} → c ≡ check.Refused why place → verdictOf c ≡ v → (rc ≡ codeOf c) × (rv ≡ placeOf c)
@@ -36,27 +35,21 @@ module _ {A : Type 0} (came : A) (value : ℕ) (done : A) {c : Check} {v : Verdi
   unfolding answer
   accepted e q = rw (told e q) refl
 
--- a front part e of n entries that has come back to its whole
-pub front-le : (n : ℕ) (e r : List ℕ) → length e ≡ n → n ≤ length (e ++ r)
-front-le n e r q = omega (arith, length-append e r)
-
-pub front-size : (n : ℕ) (e r : List ℕ) → length e ≡ n → n ≡ length (take n (e ++ r))
-front-size n e r q = sym (ap length (take-at e r n q) ∙ q)
-
-pub front-copy : {n depth : ℕ} {c : Check} (e r : List ℕ) (group mark : ℕ) → c ≡ check.Sound → verdictOf c ≡ sizesVerdict n depth group mark → length e ≡ n
-    → depth ≡ length (take n (e ++ r))
-front-copy {n} {depth} e r group mark p q h = let l : Sizes n depth group mark = sizes-passed p q in l .depth-size ∙ front-size n e r h
-
 module _ (up depth group mark : List ℕ) {c : Check} (e : c ≡ check.Sound) where
   abbrev t : Tables
   t = tablesOf depth group mark
 
-  pub start-done : {known depth′ group′ mark′ : List ℕ} (rest : List ℕ) → verdictOf c ≡ startVerdict up t → Lengths up depth group mark → Reached (treeVerdict up) up known c
-      → depth′ ≡ take (length up) (known ++ rest) → group′ ≡ tabulate (length group) (λ v. v) → mark′ ≡ replicate (length mark) 0
-      → outcome 0 (length up) (tablesOf depth′ group′ mark′) ≡ startOf up t
-  unfolding startOf fresh
-  start-done {known} rest q l k a b g =
-      rw (a, take-at known rest (length up) (k .size), k .depths e, b, g, l .group-size, l .mark-size) (accepted t (length up) (fresh up) e q)
+  -- where the lengths are right, Start answers by the tree
+  pub start-sized : {r : Answer Tables} → verdictOf c ≡ sizesVerdict (length up) (length depth) (length group) (length mark)
+      → r ≡ answer (treeVerdict up) t (length up) (fresh up) → r ≡ startOf up t
+  unfolding startOf
+  start-sized q p = p ∙ ap (λ v. answer v t (length up) (fresh up)) (start-by up t (goes-on q _ e (ends refl)))
+
+  pub start-done : {known depth′ group′ mark′ : List ℕ} → Lengths up depth group mark → Reached (treeVerdict up) up known c
+      → depth′ ≡ known → group′ ≡ tabulate (length group) (λ v. v) → mark′ ≡ replicate (length mark) 0
+      → outcome 0 (length up) (tablesOf depth′ group′ mark′) ≡ answer (treeVerdict up) t (length up) (fresh up)
+  unfolding fresh
+  start-done l k a b g = rw (a, k .depths e, b, g, l .group-size, l .mark-size) (accepted t (length up) (fresh up) e (k .verdict))
 
   module _ (batch : List ℕ) (q : verdictOf c ≡ addVerdict up batch t) where
     -- the depths are right, so the ring step may climb by them

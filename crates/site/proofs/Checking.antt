@@ -98,15 +98,8 @@ pub sizes-passed : {c : Check} {n depth group mark : ℕ} → c ≡ check.Sound 
 unfolding sizesVerdict
 sizes-passed e q = let a = all-sound _ (told e q) in lengths (a .0) (a .1)
 
-module _ {c : Check} (n depth group mark : ℕ) (e : c ≡ check.Sound) (q : verdictOf c ≡ sizesVerdict n depth group mark) where
-  fits : Sizes n depth group mark
-  fits = sizes-passed e q
-
-  pub few-up : n ≤ mostMachines
-  few-up = fits .few
-
-  pub few-group : group ≤ mostMachines
-  few-group = rw (fits .group-size) (fits .few)
+pub few-up : {c : Check} (n depth group mark : ℕ) → c ≡ check.Sound → verdictOf c ≡ sizesVerdict n depth group mark → n ≤ mostMachines
+few-up n depth group mark e q = let s : Sizes n depth group mark = sizes-passed e q in s .few
 
 pub tree-passed : {up depth group mark : List ℕ} {c : Check} {top : ℕ} → c ≡ check.Sound → verdictOf c ≡ treeVerdict up → Lengths up depth group mark → top ≡ hub up
     → Sized up depth group mark top

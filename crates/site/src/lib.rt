@@ -1,7 +1,11 @@
 // A site of machines over lent slices: Start, Add and Report.
 ghost use mathlib.Core.Path.{_≡_};
-ghost use Rattle.tables.specs.Outcome.{startOf, addOf, reportOf};
+ghost use lib.ListN.{length};
+ghost use Rattle.tables.specs.Tree.{treeVerdict};
+ghost use Rattle.tables.specs.Tables.{fresh};
+ghost use Rattle.tables.specs.Outcome.{answer, startOf, addOf, reportOf};
 ghost use Rattle.site.specs.Lent.{tablesOf, bytesOf, outcome};
+ghost use Rattle.site.specs.Checked.{Lengths};
 
 mod batch;
 mod checks;
@@ -56,7 +60,7 @@ impl Site {
     // A batch has at most so many links.
     pub const LINKS: usize = 1024;
 
-    // From a tree to fresh tables. The depths go to a local array first: nothing lent is touched before every check has passed.
+    // From a tree to fresh tables.
     pub fn start(up: &[u16], depth: &mut [u16], group: &mut [u16], mark: &mut [u8]) -> Answer
         ensures { λ r. ⌜ outcome (r .code) (r .value) (tablesOf (now (depth .exit)) (now (group .exit)) (now (mark .exit)))
             ≡ startOf (now (up .entry)) (tablesOf (now (depth .entry)) (now (group .entry)) (now (mark .entry))) ⌝ }
@@ -67,14 +71,32 @@ impl Site {
             return checks::refusal(lengths);
         };
         let mut known = [0; Site::MACHINES];
-        let shape = tree::check(up, &mut known[..n]);
+        Site::start_tree(up, &mut known[..n], depth, group, mark)
+    }
+
+    // Start where the lengths are right. The depths go to `known` first: nothing lent is touched before the tree has passed.
+    fn start_tree(
+        up: &[u16],
+        known: &mut [u16],
+        depth: &mut [u16],
+        group: &mut [u16],
+        mark: &mut [u8],
+    ) -> Answer
+        requires { ⌜ Lengths (now up) (now depth) (now group) (now mark) × (length (now known) ≡ length (now up)) ⌝ }
+        ensures { λ r. ⌜ outcome (r .code) (r .value) (tablesOf (now (depth .exit)) (now (group .exit)) (now (mark .exit)))
+            ≡ answer (treeVerdict (now (up .entry))) (tablesOf (now (depth .entry)) (now (group .entry)) (now (mark .entry))) (length (now (up .entry))) (fresh (now (up .entry))) ⌝ }
+    {
+        let shape = tree::check(up, known);
         let Check::Sound = shape else {
             return checks::refusal(shape);
         };
-        fill::copy(&known[..n], depth);
+        fill::copy(known, depth);
         fill::number(group);
         fill::clear(mark);
-        Answer { code: 0, value: n }
+        Answer {
+            code: 0,
+            value: up.len(),
+        }
     }
 
     // One batch of cross links. Every check comes before the first link is used.
