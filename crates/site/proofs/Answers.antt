@@ -1,12 +1,15 @@
 -- How a call's answer follows its checks: one that refuses is the answer, and what was lent is as it came; where all have passed, it is done.
 use mathlib.Core.Path.{_≡_, refl, sym, ap, _∙_}
 use mathlib.Core.List.{List, []}
-use Prim.Native.Nat.{ℕ}
+use Prim.Native.Nat.{ℕ, _≤_}
 use native.Mathlib.Omega.{arith}
-use lib.ListN.{length, replicate}
+use lib.ListN.{length, take, replicate, length-take}
 use Rattle.plain.specs.Table.{tabulate, total}
-use Rattle.tables.specs.Verdict.{Verdict}
-use Rattle.tables.specs.Tree.{hub, treeVerdict}
+use Rattle.plain.proofs.Tabulate.{length-tabulate}
+use Rattle.tables.specs.Verdict.{codeOf, placeOf}
+use Rattle.tables.specs.declared.Fault.{Fault}
+use Rattle.tables.specs.declared.Verdict.the-variants.{the-data as Verdict, Sound, Refused}
+use Rattle.tables.specs.Tree.{mostMachines, hub, depthOf}
 use Rattle.tables.specs.Tables.{Tables, fresh}
 use Rattle.tables.specs.Batch.{pairs, after, rise}
 use Rattle.tables.specs.Report.{groupCarried, stuck, split, lone, machineByte, linkByte, machineBytes, linkBytes}
@@ -14,44 +17,51 @@ use Rattle.tables.specs.Outcome.{Answer, answer, named, startOf, addVerdict, ad
 use Rattle.tables.proofs.Sound.{sound-tree}
 use Rattle.tables.proofs.Histories as histories
 use Rattle.tables.proofs.Rise.{rise-is}
-use Rattle.site.specs.Lent.{tablesOf, bytesOf, outcome}
-use Rattle.site.specs.Check.{codeOf, placeOf, verdictOf}
-use Rattle.site.specs.Checked.{sizesVerdict, Lengths}
-use Rattle.site.specs.TreeCheck.{Reached}
+use Rattle.tables.specs.Lent.{tablesOf, bytesOf, outcome}
+use Rattle.checks.specs.Checked.{Lengths, Started}
 use Rattle.site.specs.RingStep.{Ready, Applied}
 use Rattle.site.specs.ReportFill.{linkByteAt, ReportSized, ReportFilled}
-use Rattle.site.specs.declared.Check.{Check}
-use Rattle.site.specs.declared.Check.the-variants as check
-use Rattle.site.specs.declared.Fault.{Fault}
-use Rattle.site.proofs.Checking.{told, goes-on, ends, start-by, add-passed, report-passed}
+use Rattle.checks.proofs.Checking.{told, start-passed, add-passed, report-passed}
 
-module _ {A : Type 0} (came : A) (value : ℕ) (done : A) {c : Check} {v : Verdict} where
-  pub refused : {why : Fault} {place rc rv : ℕ} → c ≡ check.Refused why place → verdictOf c ≡ v → (rc ≡ codeOf c) × (rv ≡ placeOf c)
+module _ {A : Type 0} (came : A) (value : ℕ) (done : A) {c v : Verdict} where
+  pub refused : {why : Fault} {place rc rv : ℕ} → c ≡ Refused why place → c ≡ v → (rc ≡ codeOf c) × (rv ≡ placeOf c)
       → outcome rc rv came ≡ answer v came value done
   unfolding answer
   refused e q r = rw (r .0, r .1, told e q, e) refl
 
-  accepted : c ≡ check.Sound → verdictOf c ≡ v → outcome 0 value done ≡ answer v came value done
+  accepted : c ≡ Sound → c ≡ v → outcome 0 value done ≡ answer v came value done
   unfolding answer
   accepted e q = rw (told e q) refl
 
-module _ (up depth group mark : List ℕ) {c : Check} (e : c ≡ check.Sound) where
+module _ (up depth group mark : List ℕ) {c : Verdict} (e : c ≡ Sound) where
   abbrev t : Tables
   t = tablesOf depth group mark
 
-  -- where the lengths are right, Start answers by the tree
-  pub start-sized : {r : Answer Tables} → verdictOf c ≡ sizesVerdict (length up) (length depth) (length group) (length mark)
-      → r ≡ answer (treeVerdict up) t (length up) (fresh up) → r ≡ startOf up t
-  unfolding startOf
-  start-sized q p = p ∙ ap (λ v. answer v t (length up) (fresh up)) (start-by up t (goes-on q _ e (ends refl)))
+  -- the lengths are right, and the depths stand in front of the table of known ones
+  module _ {known : List ℕ} (k : Started up t known c) where
+    start-sizes : Lengths up depth group mark
+    start-sizes = start-passed up t (told e (k .verdict))
 
-  pub start-done : {known depth′ group′ mark′ : List ℕ} → Lengths up depth group mark → Reached (treeVerdict up) up known c
-      → depth′ ≡ known → group′ ≡ tabulate (length group) (λ v. v) → mark′ ≡ replicate (length mark) 0
-      → outcome 0 (length up) (tablesOf depth′ group′ mark′) ≡ answer (treeVerdict up) t (length up) (fresh up)
-  unfolding fresh
-  start-done l k a b g = rw (a, k .depths e, b, g, l .group-size, l .mark-size) (accepted t (length up) (fresh up) e (k .verdict))
+    pub start-front : length up ≡ length (take (length up) known)
+    start-front = sym (ap length (k .depths e) ∙ length-tabulate (length up) (depthOf up))
 
-  module _ (batch : List ℕ) (q : verdictOf c ≡ addVerdict up batch t) where
+    pub start-wide : length up ≤ length known
+    start-wide = let f = start-front in omega (arith, length-take (length up) known)
+
+    pub start-depth : length depth ≡ length (take (length up) known)
+    start-depth = start-sizes .depth-size ∙ start-front
+
+    pub start-few : length group ≤ mostMachines
+    start-few = let s = start-sizes in omega (arith, s .few, s .group-size)
+
+    pub start-done : {depth′ group′ mark′ : List ℕ} → depth′ ≡ take (length up) known → group′ ≡ tabulate (length group) (λ v. v) → mark′ ≡ replicate (length mark) 0
+        → outcome 0 (length up) (tablesOf depth′ group′ mark′) ≡ startOf up t
+    unfolding startOf fresh
+    start-done a b g =
+        let s = start-sizes in
+        rw (a, k .depths e, b, g, s .group-size, s .mark-size) (accepted t (length up) (fresh up) e (k .verdict))
+
+  module _ (batch : List ℕ) (q : c ≡ addVerdict up batch t) where
     -- the depths are right, so the ring step may climb by them
     pub add-ready : Ready up depth group mark batch
     add-ready =
@@ -74,7 +84,7 @@ module _ (up depth group mark : List ℕ) {c : Check} (e : c ≡ check.Sound) wh
         let v : r ≡ rise t t′ = omega (arith, a .rise, rise-is up (pairs batch) t (add-ready .mark-size)) in
         rw (v, a .tables) (accepted t (rise t t′) t′ e q)
 
-  module _ (machines links : List ℕ) (q : verdictOf c ≡ reportVerdict up t (bytesOf machines links)) where
+  module _ (machines links : List ℕ) (q : c ≡ reportVerdict up t (bytesOf machines links)) where
     pub report-ready : {top : ℕ} → top ≡ hub up → ReportSized up group mark top machines links
     report-ready h =
         let (p, m, l) = report-passed up t (bytesOf machines links) (told e q) in

@@ -1,10 +1,3 @@
-pub mod Searching
-pub mod Depths
-pub mod DepthTable
-pub mod TreeVerdicts
-pub mod Batches
-pub mod Keeping
-pub mod Checking
 pub mod Answers
 pub mod Callers
 pub mod Meeting

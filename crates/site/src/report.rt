@@ -1,5 +1,5 @@
 // The report of a site: a byte for each machine, and one for each uplink. A table that a test does not read is [] in its contract.
-use crate::table::at;
+use checks::at;
 ghost use mathlib.Core.Path.{_≡_};
 ghost use mathlib.Core.Bool.{cond};
 ghost use mathlib.Core.List.{[]};
@@ -10,7 +10,7 @@ ghost use Rattle.plain.specs.Table.{tabulate};
 ghost use Rattle.tables.specs.Outcome.{named};
 ghost use Rattle.tables.specs.Report.{child, stuck, split, ends, lone, machineByte, machineBytes};
 ghost use Rattle.tables.specs.Tree.{hub};
-ghost use Rattle.site.specs.Lent.{tablesOf};
+ghost use Rattle.tables.specs.Lent.{tablesOf};
 ghost use Rattle.site.specs.ReportFill.{carriedMember, stuckChild, inTwo, loneEnd, linkByteAt, ReportTable, ReportRead, ReportSized, ReportFilled};
 
 // Whether c is a child of w; the hub is no child.

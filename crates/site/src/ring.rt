@@ -5,7 +5,7 @@ ghost use Prim.Native.Nat.{_<_, max, min};
 ghost use lib.ListN.{length};
 ghost use Rattle.tables.specs.Link.{meet, renamed, joined};
 ghost use Rattle.site.specs.RingStep.{Ends, Climbs, markFor, Raises, joinedBelow, Linkable, Links, Ready, Applied};
-use crate::table::at;
+use checks::at;
 
 // Where the lines of a and b meet. The deeper of two machines climbs: it is not on the other's line, or they would be one.
 fn meet(up: &[u16], depth: &[u16], a: usize, b: usize) -> usize

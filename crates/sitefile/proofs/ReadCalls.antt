@@ -9,14 +9,15 @@ use lib.ListN.{length, take, drop, take-append-drop}
 use lib.Seq.{length-take-le}
 use borrow.Author.Tests.{le-leb, lt-ltb, eq-eqb}
 use Rattle.plain.proofs.Tabulate.{length-tabulate}
-use Rattle.tables.specs.Verdict.{Verdict, Sound, Refused, checks}
+use Rattle.tables.specs.Verdict.{checks}
+use Rattle.tables.specs.declared.Verdict.the-variants.{the-data as Verdict, Sound, Refused}
 use Rattle.tables.specs.Tree.{mostMachines, sizeVerdict, treeVerdict}
 use Rattle.tables.specs.Tables.{Tables, fresh, tableSizes}
 use Rattle.tables.specs.Batch.{pairs, after, rise}
 use Rattle.tables.specs.Report.{machineBytes, linkBytes}
 use Rattle.tables.specs.Outcome.{Bytes, answer, named, startVerdict, startOf, addVerdict, addOf, reportVerdict, reportOf}
 use Rattle.tables.proofs.Verdicts.{checks-one}
-use Rattle.site.specs.Lent.{tablesOf, bytesOf, outcome}
+use Rattle.tables.specs.Lent.{tablesOf, bytesOf, outcome}
 use Rattle.sitefile.specs.Record.{bodyLength}
 use Rattle.sitefile.specs.File as file
 use Rattle.sitefile.specs.Next.{Room, front, readOf, holding, laid, laidTables, roomOf, went}
@@ -24,7 +25,6 @@ use Rattle.sitefile.specs.Reading.{leads, Fronts, startFront}
 use Rattle.sitefile.specs.declared.Reader.{Reader}
 use Rattle.sitefile.specs.declared.Step.the-variants as steps
 use Rattle.sitefile.specs.declared.due.Due.the-variants as due
-use Rattle.tables.proofs.Codes.{add-numbered, report-numbered}
 use Rattle.site.proofs.Callers.{answer-sound, answer-refused}
 use Rattle.sitefile.proofs.Fronts.{laid-front}
 use Rattle.sitefile.proofs.ReadKinds.{readerAt}
@@ -115,7 +115,7 @@ module _ (bytes : List ℕ) (r : Reader) (up depth group mark batch machines lin
     pub close-read : code ≡ 0 → went (steps.Read next) closed ≡ leads bytes r due.Close room
     unfolding leads file.done file.close readOf holding bodyLength addOf answer
     close-read z =
-        let (k, _, l) = answer-sound own (rise part added) (laidTables added own) verdict (add-numbered tree (take (r .opened) batch) part) over-whole z in
+        let (k, _, l) = answer-sound own (rise part added) (laidTables added own) verdict over-whole z in
         let p : r .place + 1 + 0 ≡ r .place + 1 = omega arith in
         rw (whole, eq-eqb (r .n) (r .n) refl, k, l, p) (simp laid-front (rw tree-size))
 
@@ -123,7 +123,7 @@ module _ (bytes : List ℕ) (r : Reader) (up depth group mark batch machines lin
     unfolding leads file.done file.close readOf
     close-refused z =
         let (k, l) = answer-refused own (rise part added) (laidTables added own) verdict z over-whole in
-        rw (whole, eq-eqb (r .n) (r .n) refl, k, l)
+        rw (whole, eq-eqb (r .n) (r .n) refl, k .is, k .number, l)
 
   -- kind 5
   module _ (hm : r .n ≤ length machines) (hl : r .n ≤ length links) (machines′ links′ : List ℕ)
@@ -146,7 +146,7 @@ module _ (bytes : List ℕ) (r : Reader) (up depth group mark batch machines lin
     pub report-read : code ≡ 0 → went (steps.Report next) reported ≡ leads bytes r due.Report room
     unfolding leads file.done file.report readOf holding bodyLength reportOf
     report-read z =
-        let (k, _, l) = answer-sound came (named (machineBytes tree part)) filled (reportVerdict tree part came) (report-numbered tree part came) a z in
+        let (k, _, l) = answer-sound came (named (machineBytes tree part)) filled (reportVerdict tree part came) a z in
         let p : r .place + 1 + 0 ≡ r .place + 1 = omega arith in
         rw (whole, eq-eqb (r .n) (r .n) refl, same-verdict ∙ k, came-new (r .n) machines hm sm (ap (λ t. t .machines) l), came-new (r .n) links hl sl (ap (λ t. t .links) l), p) (simp laid-front (rw tree-size))
 
@@ -154,4 +154,4 @@ module _ (bytes : List ℕ) (r : Reader) (up depth group mark batch machines lin
     unfolding leads file.done file.report readOf reportOf
     report-refused z =
         let (k, l) = answer-refused came (named (machineBytes tree part)) filled (reportVerdict tree part came) z a in
-        rw (whole, eq-eqb (r .n) (r .n) refl, same-verdict ∙ k, came-back (r .n) machines (ap (λ t. t .machines) l), came-back (r .n) links (ap (λ t. t .links) l))
+        rw (whole, eq-eqb (r .n) (r .n) refl, same-verdict ∙ k .is, k .number, came-back (r .n) machines (ap (λ t. t .machines) l), came-back (r .n) links (ap (λ t. t .links) l))

@@ -14,7 +14,7 @@ use Rattle.tables.specs.Tree.{mostMachines, sizeVerdict, treeVerdict}
 use Rattle.tables.specs.Tables.{Tables, fresh}
 use Rattle.tables.specs.Batch.{mostLinks}
 use Rattle.tables.specs.Outcome.{answer}
-use Rattle.site.specs.Lent.{tablesOf, outcome}
+use Rattle.tables.specs.Lent.{tablesOf, outcome}
 use Rattle.sitefile.specs.Record.{bodyLength, bodyOf, word}
 use Rattle.sitefile.specs.File as file
 use Rattle.sitefile.specs.Next.{Room, readOf, holding, laidTables, roomOf, went}
@@ -22,7 +22,6 @@ use Rattle.sitefile.specs.Reading.{leads, startFront, UplinkDue, LinkDue
 use Rattle.sitefile.specs.declared.Reader.{Reader}
 use Rattle.sitefile.specs.declared.Step.the-variants as steps
 use Rattle.sitefile.specs.declared.due.Due.the-variants as due
-use Rattle.tables.proofs.Codes.{tree-numbered}
 use Rattle.site.proofs.Callers.{answer-sound, answer-refused}
 use Rattle.sitefile.proofs.Fronts.{laid-front, length-more, laid-more}
 
@@ -91,14 +90,14 @@ module _ (bytes : List ℕ) (r : Reader) (up depth group mark batch machines lin
     unfolding leads file.done file.uplink readOf holding bodyLength
     uplink-last z =
         let p : r .place + 1 + 2 ≡ r .place + 3 = omega arith in
-        let (s, _, l) = answer-sound own (r .n) (laidTables (fresh grown) own) (treeVerdict grown) (tree-numbered grown) started z in
+        let (s, _, l) = answer-sound own (r .n) (laidTables (fresh grown) own) (treeVerdict grown) started z in
         rw (sym e, laid-more up (u ∷ []) (r .ups) more, grown-length, le-ltb (r .ups + 1) (r .n), s, l, p, grown-length)
 
     pub uplink-refused : code ≢ 0 → went (steps.Refused code value) (roomOf (set (set up (r .ups) u) (r .ups) (at up (r .ups))) depth′ group′ mark′ batch machines links) ≡ leads bytes r due.Uplink room₂
     unfolding leads file.done file.uplink readOf
     uplink-refused f =
         let (s, l) = answer-refused own (r .n) (laidTables (fresh grown) own) (treeVerdict grown) f started in
-        rw (sym e, set-set up (r .ups) u (at up (r .ups)), set-getD up (r .ups) 0, grown-length, le-ltb (r .ups + 1) (r .n), s, l)
+        rw (sym e, set-set up (r .ups) u (at up (r .ups)), set-getD up (r .ups) 0, grown-length, le-ltb (r .ups + 1) (r .n), s .is, s .number, l)
 
 -- kind 3
 module _ (bytes : List ℕ) (r : Reader) (up depth group mark batch machines links : List ℕ) (d : LinkDue bytes r (length batch)) where

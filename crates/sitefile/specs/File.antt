@@ -5,7 +5,8 @@ use Prim.Native.Nat.{ℕ, zero, suc, _+_, _*_}
 use lib.ListN.{length}
 use lib.Dec.{leb, ltb, eqb}
 use Rattle.plain.specs.Table.{at}
-use Rattle.tables.specs.Verdict.{Verdict, Sound, Refused}
+use Rattle.tables.specs.Verdict.{numberOf}
+use Rattle.tables.specs.declared.Verdict.the-variants.{the-data as Verdict, Sound, Refused}
 use Rattle.tables.specs.Tree.{sizeVerdict, treeVerdict}
 use Rattle.tables.specs.Tables.{Tables, fresh}
 use Rattle.tables.specs.Batch.{mostLinks}
@@ -79,7 +80,7 @@ dueOf file r =
 -- what one check of a call leads to
 abbrev pub unlessRefused : Verdict → Next → Next
 unlessRefused Sound next = next
-unlessRefused (Refused code value) next = stop code value
+unlessRefused (Refused why place) next = stop (numberOf why) place
 
 -- kind 1: n, from 1 to 4,096
 unfoldable pub size : Read → ℕ → Next

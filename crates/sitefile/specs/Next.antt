@@ -8,7 +8,7 @@ use Rattle.tables.specs.Tree.{mostMachines}
 use Rattle.tables.specs.Batch.{mostLinks}
 use Rattle.tables.specs.Tables.{Tables}
 use Rattle.tables.specs.Outcome.{Bytes}
-use Rattle.site.specs.Lent.{tablesOf, bytesOf}
+use Rattle.tables.specs.Lent.{tablesOf, bytesOf}
 use Rattle.sitefile.specs.File as file
 use Rattle.sitefile.specs.declared.Reader.{Reader}
 use Rattle.sitefile.specs.declared.Step.{Step}

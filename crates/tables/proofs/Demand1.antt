@@ -7,7 +7,7 @@ use Prim.Native.Nat.{ℕ}
 use native.Mathlib.Omega.{arith}
 use lib.ListN.{length}
 use borrow.Author.Tests.{eq-eqb, eqb-true}
-use Rattle.tables.specs.Verdict.{Verdict, Sound, Refused, checks}
+use Rattle.tables.specs.Verdict.{Fault, Verdict, Sound, Refused, checks}
 use Rattle.tables.specs.Tree.{treeVerdict, sizeVerdict}
 use Rattle.tables.specs.Tables.{Tables, tableSizes}
 use Rattle.tables.specs.Batch.{batchVerdict}
@@ -50,8 +50,8 @@ module _ (up : List ℕ) (t : Tables) (n : sizeVerdict (length up) ≡ Sound) (e
       let k = rules-exact up t e z in
       ⊎-elim
       (λ r. let g : v ≡ checks vs = q ∙ rw r refl in (λ i _. answer-code v came value done (rw g (checks-avoid vs f)) i, λ o. absurd (o (k .0 r))))
-      (λ (p, r). let g : v ≡ Refused 6 p = q ∙ rw r refl in (λ _ l. not-both r (k .1 l), λ _. rw g refl))
-      (refuse-view 6 (length up) (breaks up t))
+      (λ (p, r). let g : v ≡ Refused Fault.Rule p = q ∙ rw r refl in (λ _ l. not-both r (k .1 l), λ _. rw g refl))
+      (refuse-view Fault.Rule (length up) (breaks up t))
 
   -- Report comes to the rules
   pub report-came : (o : Bytes) → length (o .machines) ≡ length up → length (o .links) ≡ length up → reportVerdict up t o ≡ checks (rulesVerdict up t ∷ [])
@@ -64,9 +64,9 @@ module _ (up : List ℕ) (t : Tables) (n : sizeVerdict (length up) ≡ Sound) (e
   unfolding addOf addVerdict reportOf checks rulesVerdict
   tables-exact = record {
     kept = rules-exact up t e z;
-    add-refused = λ batch. exactly _ _ _ (addVerdict up batch t) (batchVerdict (length up) batch ∷ []) (rw (n, z, e) refl) (batch-avoids (length up) batch (omega arith), tt);
+    add-refused = λ batch. exactly _ _ _ (addVerdict up batch t) (batchVerdict (length up) batch ∷ []) (rw (n, z, e) refl) (batch-avoids (length up) batch, tt);
     report-refused = λ o a b. exactly _ _ _ (reportVerdict up t o) [] (report-came o a b) tt;
-    place = λ v q. let r = refused-at 6 _ _ q in (r .machine, r .fails, r .before);
+    place = λ v q. let r = refused-at Fault.Rule _ _ q in (r .machine, r .fails, r .before);
   }
 
 pub demand1 : Demand1

@@ -23,7 +23,7 @@ use Rattle.rings.specs.Tree.{Tree}
 use Rattle.tables.specs.Rules.{depthRule, hubRule, markRule, groupRule, partnerRule, carriedRule, keeps, breaks, rulesVerdict}
 use Rattle.tables.specs.Tables.{Tables}
 use Rattle.tables.specs.Tree.{hub, depthOf, treeOf}
-use Rattle.tables.specs.Verdict.{Sound}
+use Rattle.tables.specs.Verdict.{Fault, Sound}
 use Rattle.tables.specs.Demand1.{SoundTree}
 use Rattle.tables.proofs.Verdicts.{none-refused, refuse-none}
 use Rattle.tables.proofs.Sound.{depth-hub, depth-up}
@@ -90,8 +90,8 @@ module _ {up : List ℕ} {L : Relation} {t : Tables} (s : SoundTree up) (N : Net
 
 pub kept-sound : (up : List ℕ) (t : Tables) → ((v : ℕ) → v < length up → Kept up t v) → rulesVerdict up t ≡ Sound
 unfolding rulesVerdict breaks
-kept-sound up t f = refuse-none 6 (length up) (λ v. not (keeps up t v)) (λ v h. ap not (says-keeps up t v .takes (f v h)))
+kept-sound up t f = refuse-none Fault.Rule (length up) (λ v. not (keeps up t v)) (λ v h. ap not (says-keeps up t v .takes (f v h)))
 
 pub sound-kept : (up : List ℕ) (t : Tables) → rulesVerdict up t ≡ Sound → (v : ℕ) → v < length up → Kept up t v
 unfolding rulesVerdict breaks
-sound-kept up t e v h = says-keeps up t v .gives (not-false (keeps up t v) (none-refused 6 (length up) (λ v. not (keeps up t v)) e v h))
+sound-kept up t e v h = says-keeps up t v .gives (not-false (keeps up t v) (none-refused Fault.Rule (length up) (λ v. not (keeps up t v)) e v h))

@@ -13,7 +13,7 @@ use Rattle.plain.specs.Table.{at}
 use Rattle.plain.proofs.Says.{clash, Says, says-lt, says-eq, says-and, refuted, refutes}
 use Rattle.plain.proofs.Least.{Least, least-is, least-has}
 use Rattle.rings.specs.Tree.{Rooted}
-use Rattle.tables.specs.Verdict.{Sound, Refused}
+use Rattle.tables.specs.Verdict.{Fault, Sound, Refused}
 use Rattle.tables.specs.Tree.{climb, hub, Inside, Reaches, depthOf, treeVerdict, treeOf}
 use Rattle.tables.specs.Demand1.{SoundTree, TreesExact}
 use Rattle.tables.proofs.Verdicts.{all-sound, sound-all, checks-one, least-avoids, unless-avoids, later, unless-sound, none-refused, refuse-none, refused-at}
@@ -73,14 +73,14 @@ module _ {up : List ℕ} (s : SoundTree up) where
         (rw (lt-ltb (hub up) n (s .hub-in)) refl, (refuse-none _ _ _ lone, (refuse-none _ _ _ (λ v h. lt-leb n (depthOf up v) (soon v h)), tt))),
       )
 
-never : (up : List ℕ) (v : ℕ) → treeVerdict up ≡ Refused 5 v → (v < length up) × (¬ Reaches up v) × ((u : ℕ) → u < v → Reaches up u)
+never : (up : List ℕ) (v : ℕ) → treeVerdict up ≡ Refused Fault.Stray v → (v < length up) × (¬ Reaches up v) × ((u : ℕ) → u < v → Reaches up u)
 unfolding treeVerdict
 never up v e₀ =
     let n = length up in
     let (a, e₁) = later _ (least-avoids _ _ _ (omega arith)) e₀ in
-    let (_, e₂) = later _ (unless-avoids (ltb (hub up) n) 4 n (omega arith)) e₁ in
+    let (_, e₂) = later _ (unless-avoids (ltb (hub up) n) Fault.Hubs n (omega arith)) e₁ in
     let (_, e₃) = later _ (least-avoids _ _ _ (omega arith)) e₂ in
-    let r = refused-at 5 n (λ v. leb n (depthOf up v)) (sym (checks-one _) ∙ e₃) in
+    let r = refused-at Fault.Stray n (λ v. leb n (depthOf up v)) (sym (checks-one _) ∙ e₃) in
     let w : Inside up = λ v h. leb-false n (at up v) (none-refused _ _ _ a v h) in (
       r .machine,
       λ t. omega (arith, leb-true n (depthOf up v) (r .fails), reaches-soon up v w (r .machine) t),

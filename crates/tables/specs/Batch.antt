@@ -6,7 +6,7 @@ use lib.ListN.{length}
 use lib.Dec.{leb, eqb}
 use Rattle.plain.specs.Table.{at, tabulate, total}
 use Rattle.graph.specs.Cable.{Cables}
-use Rattle.tables.specs.Verdict.{Verdict, Sound, Refused, checks, unless}
+use Rattle.tables.specs.Verdict.{Fault, Verdict, Sound, Refused, checks, unless}
 use Rattle.tables.specs.Tables.{Tables}
 use Rattle.tables.specs.Link.{linked}
 
@@ -22,13 +22,13 @@ pairs (a ∷ b ∷ l) = (a, b) ∷ pairs l
 
 -- code 7: batch length odd or over 2,048
 unfoldable pub lengthVerdict : List ℕ → Verdict
-lengthVerdict batch = unless (eqb (length batch % 2) 0 && leb (length batch) (2 * mostLinks)) 7 (length batch)
+lengthVerdict batch = unless (eqb (length batch % 2) 0 && leb (length batch) (2 * mostLinks)) Fault.Length (length batch)
 
 -- link by link, from index i on: 8, an end is n or more; 9, a machine is joined to itself
 unfoldable pub endsVerdict : ℕ → ℕ → Cables → Verdict
 endsVerdict n i [] = Sound
 endsVerdict n i (p ∷ l) =
-    cond (leb n (p .0) || leb n (p .1)) (Refused 8 i) (cond (eqb (p .0) (p .1)) (Refused 9 i) (endsVerdict n (suc i) l))
+    cond (leb n (p .0) || leb n (p .1)) (Refused Fault.End i) (cond (eqb (p .0) (p .1)) (Refused Fault.Loop i) (endsVerdict n (suc i) l))
 
 unfoldable pub batchVerdict : ℕ → List ℕ → Verdict
 batchVerdict n batch = checks (lengthVerdict batch ∷ endsVerdict n 0 (pairs batch) ∷ [])

@@ -7,7 +7,7 @@ use mathlib.Core.Logic.{_≢_, _↔_}
 use Prim.Native.Nat.{ℕ, _<_}
 use lib.ListN.{length}
 use Rattle.plain.specs.Table.{at}
-use Rattle.tables.specs.Verdict.{Sound, Refused, checks}
+use Rattle.tables.specs.Verdict.{Fault, Sound, Refused, checks}
 use Rattle.tables.specs.Tree.{hub, Inside, Reaches, sizeVerdict, treeVerdict}
 use Rattle.tables.specs.Tables.{Tables, tableSizes}
 use Rattle.tables.specs.History.{Left}
@@ -25,14 +25,14 @@ pub record SoundTree (up : List ℕ) : Type 0 where
 -- a tree is accepted exactly where it is sound, and code 5 names the least machine that no number of steps leads to the hub
 pub record TreesExact : Type 0 where
   pub sound : (up : List ℕ) → (treeVerdict up ≡ Sound) ↔ SoundTree up
-  pub never : (up : List ℕ) (v : ℕ) → treeVerdict up ≡ Refused 5 v → (v < length up) × (¬ Reaches up v) × ((u : ℕ) → u < v → Reaches up u)
+  pub never : (up : List ℕ) (v : ℕ) → treeVerdict up ≡ Refused Fault.Stray v → (v < length up) × (¬ Reaches up v) × ((u : ℕ) → u < v → Reaches up u)
 
 -- over a sound tree, tables of the right lengths are refused with 6 exactly where no history leaves them, with the least machine breaking a rule
 pub record TablesExact (up : List ℕ) (t : Tables) : Type 0 where
   pub kept : (rulesVerdict up t ≡ Sound) ↔ Left up t
   pub add-refused : (batch : List ℕ) → (addOf up batch t .code ≡ 6) ↔ (¬ Left up t)
   pub report-refused : (o : Bytes) → length (o .machines) ≡ length up → length (o .links) ≡ length up → (reportOf up t o .code ≡ 6) ↔ (¬ Left up t)
-  pub place : (v : ℕ) → rulesVerdict up t ≡ Refused 6 v → (v < length up) × (breaks up t v ≡ true) × ((u : ℕ) → u < v → breaks up t u ≡ false)
+  pub place : (v : ℕ) → rulesVerdict up t ≡ Refused Fault.Rule v → (v < length up) × (breaks up t v ≡ true) × ((u : ℕ) → u < v → breaks up t u ≡ false)
 
 -- on a refusal every lent slice is untouched
 pub record Untouched : Type 0 where

@@ -7,6 +7,7 @@ pub mod History
 pub mod Rules
 pub mod Report
 pub mod Outcome
+pub mod Lent
 pub mod Cables
 pub mod Laws
 pub mod Calls

@@ -6,7 +6,7 @@ use lib.ListN.{length}
 use lib.Dec.{eqb}
 use Rattle.plain.specs.Search.{count}
 use Rattle.plain.specs.Table.{at}
-use Rattle.tables.specs.Verdict.{Verdict, Sound, Refused, checks}
+use Rattle.tables.specs.Verdict.{Verdict, Sound, Refused, numberOf, checks}
 use Rattle.tables.specs.Tree.{sizeVerdict, treeVerdict}
 use Rattle.tables.specs.Tables.{Tables, fresh, sized, tableSizes}
 use Rattle.tables.specs.Batch.{pairs, batchVerdict, after, rise}
@@ -21,7 +21,7 @@ pub record Answer (A : Type 0) : Type 0 where
 -- refused: its number, its value, and what was lent as it came. Else code 0, and what is done
 unfoldable pub answer : {A : Type 0} → Verdict → A → ℕ → A → Answer A
 answer Sound came value done = record { code = 0; value = value; lent = done }
-answer (Refused code place) came value done = record { code = code; value = place; lent = came }
+answer (Refused why place) came value done = record { code = numberOf why; value = place; lent = came }
 
 -- Start uses 1 to 5 and ignores what the three tables held. Its value is n
 unfoldable pub startVerdict : List ℕ → Tables → Verdict

@@ -5,7 +5,7 @@ use Prim.Native.Nat.{ℕ, suc}
 use lib.ListN.{length}
 use lib.Dec.{leb, ltb, eqb}
 use Rattle.plain.specs.Table.{at}
-use Rattle.tables.specs.Verdict.{Verdict, refuseLeast}
+use Rattle.tables.specs.Verdict.{Fault, Verdict, refuseLeast}
 use Rattle.tables.specs.Tree.{hub}
 use Rattle.tables.specs.Tables.{Tables}
 
@@ -48,4 +48,4 @@ breaks up t v = not (keeps up t v)
 
 -- code 6: no history leaves these tables (that it is given just then is demand 1)
 unfoldable pub rulesVerdict : List ℕ → Tables → Verdict
-rulesVerdict up t = refuseLeast 6 (length up) (breaks up t)
+rulesVerdict up t = refuseLeast Fault.Rule (length up) (breaks up t)

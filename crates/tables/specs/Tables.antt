@@ -4,7 +4,7 @@ use Prim.Native.Nat.{ℕ}
 use lib.ListN.{length, replicate}
 use lib.Dec.{eqb}
 use Rattle.plain.specs.Table.{tabulate}
-use Rattle.tables.specs.Verdict.{Verdict, unless}
+use Rattle.tables.specs.Verdict.{Fault, Verdict, unless}
 use Rattle.tables.specs.Tree.{depthOf}
 
 pub record Tables : Type 0 where
@@ -18,7 +18,7 @@ fresh up = record { depth = tabulate (length up) (depthOf up); group = tabulate 
 
 -- code 2: the slice of that number has a length other than n
 abbrev pub sized : ℕ → ℕ → ℕ → Verdict
-sized which size n = unless (eqb size n) 2 which
+sized which size n = unless (eqb size n) Fault.Slice which
 
 unfoldable pub tableSizes : List ℕ → Tables → List Verdict
 tableSizes up t =

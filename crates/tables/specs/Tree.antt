@@ -8,7 +8,7 @@ use lib.Dec.{leb, ltb, eqb}
 use Rattle.plain.specs.Search.{least}
 use Rattle.plain.specs.Table.{at}
 use Rattle.rings.specs.Tree.{Tree}
-use Rattle.tables.specs.Verdict.{Verdict, checks, unless, refuseLeast}
+use Rattle.tables.specs.Verdict.{Fault, Verdict, checks, unless, refuseLeast}
 
 -- a site has at most so many machines
 abbrev pub mostMachines : ℕ
@@ -37,15 +37,15 @@ depthOf up v = least (length up) (λ k. eqb (climb up k v) (hub up))
 
 -- code 1: up has length 0 or over 4,096
 unfoldable pub sizeVerdict : ℕ → Verdict
-sizeVerdict n = unless (ltb 0 n && leb n mostMachines) 1 n
+sizeVerdict n = unless (ltb 0 n && leb n mostMachines) Fault.Size n
 
 -- 3: an up entry is n or more; 4: hubs are not exactly one; 5: a machine never reaches the hub
 unfoldable pub treeVerdict : List ℕ → Verdict
 treeVerdict up =
-    checks (refuseLeast 3 (length up) (λ v. leb (length up) (at up v))
-    ∷ unless (ltb (hub up) (length up)) 4 (length up)
-    ∷ refuseLeast 4 (length up) (λ v. ltb (hub up) v && eqb (at up v) v)
-    ∷ refuseLeast 5 (length up) (λ v. leb (length up) (depthOf up v))
+    checks (refuseLeast Fault.Entry (length up) (λ v. leb (length up) (at up v))
+    ∷ unless (ltb (hub up) (length up)) Fault.Hubs (length up)
+    ∷ refuseLeast Fault.Hubs (length up) (λ v. ltb (hub up) v && eqb (at up v) v)
+    ∷ refuseLeast Fault.Stray (length up) (λ v. leb (length up) (depthOf up v))
     ∷ [])
 
 -- the tree, as the theory of rings has it

@@ -4,22 +4,42 @@ use mathlib.Core.List.{List, [], _∷_}
 use Prim.Native.Nat.{ℕ}
 use lib.Dec.{ltb}
 use Rattle.plain.specs.Search.{least}
+-- the code's own types: all is well, or refused with why and where
+pub use Rattle.tables.specs.declared.Verdict.{Verdict}
+pub use Rattle.tables.specs.declared.Verdict.the-variants.{Sound, Refused}
+pub use Rattle.tables.specs.declared.Fault.{Fault}
 
--- all is well, or refused with a code and a value
-pub data Verdict : Type 0 where
-  Sound : Verdict
-  Refused : ℕ → ℕ → Verdict
+-- the code of a fault
+abbrev pub numberOf : Fault → ℕ
+numberOf Fault.Size = 1
+numberOf Fault.Slice = 2
+numberOf Fault.Entry = 3
+numberOf Fault.Hubs = 4
+numberOf Fault.Stray = 5
+numberOf Fault.Rule = 6
+numberOf Fault.Length = 7
+numberOf Fault.End = 8
+numberOf Fault.Loop = 9
+
+-- the code and the value of an answer; 0 where all is well
+abbrev pub codeOf : Verdict → ℕ
+codeOf Sound = 0
+codeOf (Refused why place) = numberOf why
+
+abbrev pub placeOf : Verdict → ℕ
+placeOf Sound = 0
+placeOf (Refused why place) = place
 
 -- checks that run in this order: the first refusal
 unfoldable pub checks : List Verdict → Verdict
 checks [] = Sound
 checks (Sound ∷ vs) = checks vs
-checks (Refused code value ∷ vs) = Refused code value
+checks (Refused why place ∷ vs) = Refused why place
 
 -- refused unless the test holds
-abbrev pub unless : Bool → ℕ → ℕ → Verdict
-unless b code value = cond b Sound (Refused code value)
+abbrev pub unless : Bool → Fault → ℕ → Verdict
+unless b why place = cond b Sound (Refused why place)
 
 -- refused with the least machine that p holds of, if there is one
-unfoldable pub refuseLeast : ℕ → ℕ → (ℕ → Bool) → Verdict
-refuseLeast code n p = cond (ltb (least n p) n) (Refused code (least n p)) Sound
+unfoldable pub refuseLeast : Fault → ℕ → (ℕ → Bool) → Verdict
+refuseLeast why n p = cond (ltb (least n p) n) (Refused why (least n p)) Sound

@@ -2,7 +2,7 @@
 use borrow.Author.Needs.{needs}
 use borrow.Author.Tests.{eq-eqb, ne-eqb}
 use Rattle.tables.specs.Report.{ends}
-use Rattle.site.proofs.Keeping.{is-hub, not-hub}
+use Rattle.checks.proofs.Keeping.{is-hub, not-hub}
 use Rattle.site.proofs.report.ends.Statement.{statement}
 use Rattle.site.proofs.report.ends.Tie as tie
 

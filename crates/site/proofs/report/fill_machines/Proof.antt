@@ -6,7 +6,7 @@ use lib.ListN.{length}
 use borrow.Author.Needs.{needs}
 use Rattle.plain.proofs.Fill.{Filling, fill-start, fill-next, fill-end}
 use Rattle.tables.specs.Report.{machineByte, machineBytes}
-use Rattle.site.specs.Lent.{tablesOf}
+use Rattle.tables.specs.Lent.{tablesOf}
 use Rattle.site.proofs.report.fill_machines.Statement.{statement}
 use Rattle.site.proofs.report.fill_machines.Tie as tie
 

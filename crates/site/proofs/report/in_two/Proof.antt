@@ -1,6 +1,6 @@
 -- `report::in_two`: the tests in turn.
 use borrow.Author.Needs.{needs}
-use Rattle.site.proofs.Keeping.{stop, on}
+use Rattle.checks.proofs.Keeping.{stop, on}
 use Rattle.site.proofs.report.in_two.Statement.{statement}
 use Rattle.site.proofs.report.in_two.Tie as tie
 

@@ -1,7 +1,7 @@
 -- `report::lone`: a search, then a count.
 use borrow.Author.Needs.{needs}
 use Rattle.tables.specs.Report.{lone}
-use Rattle.site.proofs.Keeping.{stop, on}
+use Rattle.checks.proofs.Keeping.{stop, on}
 use Rattle.site.proofs.report.lone.Statement.{statement}
 use Rattle.site.proofs.report.lone.Tie as tie
 

@@ -1,7 +1,7 @@
 -- `report::lone_end`: the tests in turn, the mark by its range.
 use borrow.Author.Needs.{needs}
 use borrow.Author.Tests.{eq-eqb, ne-eqb}
-use Rattle.site.proofs.Keeping.{stop, on}
+use Rattle.checks.proofs.Keeping.{stop, on}
 use Rattle.site.proofs.report.lone_end.Statement.{statement}
 use Rattle.site.proofs.report.lone_end.Tie as tie
 

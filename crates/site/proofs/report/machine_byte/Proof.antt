@@ -2,7 +2,7 @@
 use borrow.Author.Needs.{needs}
 use borrow.Author.Tests.{eq-eqb, ne-eqb}
 use Rattle.tables.specs.Report.{machineByte, split, lone}
-use Rattle.site.proofs.Keeping.{is-hub, not-hub}
+use Rattle.checks.proofs.Keeping.{is-hub, not-hub}
 use Rattle.site.proofs.report.machine_byte.Statement.{statement}
 use Rattle.site.proofs.report.machine_byte.Tie as tie
 

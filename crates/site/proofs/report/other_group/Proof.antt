@@ -3,7 +3,7 @@ use Prim.Native.Nat.{_-_}
 use lib.ListN.{length}
 use borrow.Author.Needs.{needs}
 use Rattle.site.specs.ReportFill.{inTwo}
-use Rattle.site.proofs.Searching.{Searched, start, tested, next, some-here, some-none}
+use Rattle.checks.proofs.Searching.{Searched, start, tested, next, some-here, some-none}
 use Rattle.site.proofs.report.other_group.Statement.{statement}
 use Rattle.site.proofs.report.other_group.Tie as tie
 

@@ -5,7 +5,7 @@ use borrow.Author.Needs.{needs}
 use Rattle.plain.specs.Search.{some}
 use Rattle.tables.specs.Report.{split}
 use Rattle.site.specs.ReportFill.{inTwo}
-use Rattle.site.proofs.Searching.{Searched, start, tested, next, some-here, some-none}
+use Rattle.checks.proofs.Searching.{Searched, start, tested, next, some-here, some-none}
 use Rattle.site.proofs.report.split.Statement.{statement}
 use Rattle.site.proofs.report.split.Tie as tie
 

@@ -5,8 +5,8 @@ use lib.ListN.{length}
 use borrow.Author.Needs.{needs}
 use Rattle.tables.specs.Report.{stuck}
 use Rattle.site.specs.ReportFill.{stuckChild}
-use Rattle.site.specs.Lent.{tablesOf}
-use Rattle.site.proofs.Searching.{Searched, start, tested, next, some-here, some-none}
+use Rattle.tables.specs.Lent.{tablesOf}
+use Rattle.checks.proofs.Searching.{Searched, start, tested, next, some-here, some-none}
 use Rattle.site.proofs.report.stuck.Statement.{statement}
 use Rattle.site.proofs.report.stuck.Tie as tie
 

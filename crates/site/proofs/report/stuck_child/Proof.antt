@@ -1,7 +1,7 @@
 -- `report::stuck_child`: a child whose group the search finds no carried member of.
 use borrow.Author.Needs.{needs}
 use Rattle.tables.specs.Report.{groupCarried}
-use Rattle.site.proofs.Keeping.{stop, on}
+use Rattle.checks.proofs.Keeping.{stop, on}
 use Rattle.site.proofs.report.stuck_child.Statement.{statement}
 use Rattle.site.proofs.report.stuck_child.Tie as tie
 

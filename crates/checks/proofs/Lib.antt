@@ -1,0 +1,7 @@
+pub mod Searching
+pub mod Depths
+pub mod DepthTable
+pub mod TreeVerdicts
+pub mod Batches
+pub mod Keeping
+pub mod Checking

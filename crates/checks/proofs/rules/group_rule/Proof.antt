@@ -1,0 +1,25 @@
+-- `rules::group_rule`: a name over v breaks the rule, be it a machine or not; any other is a machine and may be an index.
+use borrow.Author.Needs.{needs}
+use borrow.Author.Tests.{eq-eqb}
+use Rattle.tables.specs.Rules.{groupRule}
+use Rattle.checks.proofs.Keeping.{is-hub, name-over, name-hub, name-away, name-own}
+use Rattle.checks.proofs.rules.group_rule.Statement.{statement}
+use Rattle.checks.proofs.rules.group_rule.Tie as tie
+
+returns : tie.Need-returns
+unfolding groupRule
+returns c = search (eq-eqb, is-hub)
+
+pub group-rule-spec : {M : Type 1} → statement M
+group-rule-spec =
+    tie.close
+    (tie.spec
+    returns
+    (λ c κs. search needs)
+    (λ c. search name-over)
+    (λ c. search name-hub)
+    (λ c κs. search needs)
+    (λ c κs. search needs)
+    (λ c. search name-away)
+    (λ c κs. search needs)
+    (λ c. search name-own))

@@ -1,0 +1,3 @@
+pub mod Checked
+pub mod TreeCheck
+pub mod RulesCheck
