@@ -1,5 +1,5 @@
 -- Checks in their order: one that refuses is the verdict, one that passes leaves it to those behind it; and what they tell once all have passed.
-use mathlib.Core.Path.{_≡_, refl, sym, ap, _∙_}
+use mathlib.Core.Path.{_≡_, refl, sym, _∙_}
 use mathlib.Core.List.{List, [], _∷_}
 use Prim.Native.Nat.{ℕ, _≤_}
 use lib.ListN.{length, take}
@@ -12,11 +12,11 @@ use Rattle.tables.specs.Tree.{mostMachines, hub, sizeVerdict, treeVerdict}
 use Rattle.tables.specs.Tables.{Tables, sized, tableSizes}
 use Rattle.tables.specs.Batch.{batchVerdict}
 use Rattle.tables.specs.Rules.{rulesVerdict}
-use Rattle.tables.specs.History.{History, Lived, tables}
+use Rattle.tables.specs.Links.{SiteOf}
 use Rattle.tables.specs.Outcome.{Bytes, startVerdict, addVerdict, reportVerdict}
 use Rattle.tables.proofs.Verdicts.{not-both, passes, refuses, checks-one, All, all-sound, sound-all, unless-sound}
 use Rattle.tables.proofs.Sound.{sound-tree}
-use Rattle.tables.proofs.Demand1.{rules-exact}
+use Rattle.tables.proofs.Demand1.{site-of}
 use Rattle.tables.specs.Lent.{tablesOf}
 use Rattle.checks.specs.Checked.{sizesVerdict, outputsVerdict, tablesVerdict, Sizes, Lengths, Started}
 use Rattle.checks.specs.RulesCheck.{Sized}
@@ -122,18 +122,14 @@ pub start-passed : (up : List ℕ) (t : Tables) → startVerdict up t ≡ Sound 
 unfolding startVerdict tableSizes
 start-passed up t e = let a = all-sound _ e in lengths (a .0) (all-sound _ (a .1 .0))
 
--- tables that break no rule are those of a history
+-- tables that break no rule are those of links that stand
 pub record Passed (up : List ℕ) (t : Tables) : Type 0 where
   pub sizes : Lengths up (t .depth) (t .group) (t .mark)
-  pub history : History
-  pub lived : Lived up history
-  pub left : tables up history ≡ t
+  pub site : SiteOf up t
 
 passed : (up : List ℕ) (t : Tables) → sizeVerdict (length up) ≡ Sound → All (λ v. v ≡ Sound) (tableSizes up t) → treeVerdict up ≡ Sound → rulesVerdict up t ≡ Sound → Passed up t
 unfolding tableSizes
-passed up t size slices tree rules =
-    let (h, accepted, left) = rules-exact up t tree (sound-all (tableSizes up t) slices) .0 rules in
-    record { sizes = lengths size slices; history = h; lived = record { size = size; tree = tree; batches = accepted }; left = left }
+passed up t size slices tree rules = record { sizes = lengths size slices; site = site-of up t size tree (sound-all (tableSizes up t) slices) rules }
 
 module _ (up : List ℕ) (t : Tables) where
   pub add-passed : (batch : List ℕ) → addVerdict up batch t ≡ Sound → Passed up t × (batchVerdict (length up) batch ≡ Sound)

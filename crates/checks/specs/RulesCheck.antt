@@ -1,11 +1,9 @@
 -- What the check of the rules asks of its slices.
 -- These are the contracts of private functions: the public calls do not cite them, so nothing here has to be believed.
 use mathlib.Core.Path.{_≡_}
-use mathlib.Core.Bool.{Bool, _&&_, _||_, not}
 use mathlib.Core.List.{List}
 use Prim.Native.Nat.{ℕ, _<_}
 use lib.ListN.{length}
-use lib.Dec.{leb, eqb}
 use Rattle.plain.specs.Table.{at}
 use Rattle.tables.specs.Tree.{hub, Inside}
 
@@ -18,15 +16,7 @@ pub record Sized (up depth group mark : List ℕ) (h : ℕ) : Type 0 where
   pub top : h ≡ hub up
 
 -- the part of it for one machine v and one table
-pub record Beside (up table : List ℕ) (h v : ℕ) : Type 0 where
+pub record Beside (up table : List ℕ) (v : ℕ) : Type 0 where
   pub size : length table ≡ length up
   pub low : v < length up
   pub above : at up v < length up
-  pub top : h ≡ hub up
-
--- two of the rules, where h is the hub
-abbrev pub hubRuleAt : ℕ → List ℕ → List ℕ → ℕ → Bool
-hubRuleAt h group mark v = not (eqb v h) || (eqb (at mark v) 0 && eqb (at group v) v)
-
-abbrev pub partnerRuleAt : ℕ → List ℕ → List ℕ → ℕ → Bool
-partnerRuleAt h group mark v = eqb v h || (eqb (at group v) v || (leb 1 (at mark (at group v)) && leb 1 (at mark v)))

@@ -1,17 +1,15 @@
-// The rules behind code 6: each is a test of one machine, and the least machine that breaks one is refused. A table that a rule does not
-// read is [] in its contract.
+// The rules behind code 6: each is a test of one machine, and the least machine that breaks one is refused.
 use crate::table::at;
 use tables::Fault;
 use tables::Verdict;
 ghost use mathlib.Core.Path.{_≡_};
-ghost use mathlib.Core.List.{[]};
 ghost use Prim.Native.Nat.{_<_};
 ghost use lib.ListN.{length};
 ghost use lib.Dec.{leb};
-ghost use Rattle.tables.specs.Rules.{depthRule, markRule, groupRule, carriedRule, rulesVerdict};
+ghost use Rattle.tables.specs.Rules.{depthRule, hubRule, markRule, groupRule, partnerRule, carriedRule, rulesVerdict};
 ghost use Rattle.tables.specs.Rules;
 ghost use Rattle.tables.specs.Lent.{tablesOf};
-ghost use Rattle.checks.specs.RulesCheck.{Sized, Beside, hubRuleAt, partnerRuleAt};
+ghost use Rattle.checks.specs.RulesCheck.{Sized, Beside};
 
 // Whether a mark is at least 1.
 fn ringed(mark: u8) -> bool
@@ -25,8 +23,8 @@ fn ringed(mark: u8) -> bool
 
 // Depth is 0 at the hub, else one more than that of up[v].
 fn depth_rule(up: &[u16], depth: &[u16], top: usize, v: usize) -> bool
-    requires { ⌜ Beside (now up) (now depth) top v ⌝ }
-    ensures { λ r. ⌜ r ≡ depthRule (now (up .entry)) (tablesOf (now (depth .entry)) [] []) v ⌝ }
+    requires { ⌜ Beside (now up) (now depth) v ⌝ }
+    ensures { λ r. ⌜ r ≡ depthRule top (now (up .entry)) (now (depth .entry)) v ⌝ }
 {
     if v == top {
         at(depth, v) == 0
@@ -38,7 +36,7 @@ fn depth_rule(up: &[u16], depth: &[u16], top: usize, v: usize) -> bool
 // The hub has mark 0 and its own group.
 fn hub_rule(group: &[u16], mark: &[u8], top: usize, v: usize) -> bool
     requires { ⌜ (v < length (now group)) × (v < length (now mark)) ⌝ }
-    ensures { λ r. ⌜ r ≡ hubRuleAt top (now (group .entry)) (now (mark .entry)) v ⌝ }
+    ensures { λ r. ⌜ r ≡ hubRule top (now (group .entry)) (now (mark .entry)) v ⌝ }
 {
     if v != top {
         return true;
@@ -52,7 +50,7 @@ fn hub_rule(group: &[u16], mark: &[u8], top: usize, v: usize) -> bool
 // A mark is at most 2.
 fn mark_rule(mark: &[u8], v: usize) -> bool
     requires { ⌜ v < length (now mark) ⌝ }
-    ensures { λ r. ⌜ r ≡ markRule (tablesOf [] [] (now (mark .entry))) v ⌝ }
+    ensures { λ r. ⌜ r ≡ markRule (now (mark .entry)) v ⌝ }
 {
     match mark[v] {
         0..=2 => true,
@@ -62,8 +60,8 @@ fn mark_rule(mark: &[u8], v: usize) -> bool
 
 // The group of any other machine is named by a child of the same machine, at most v and of its own group.
 fn group_rule(up: &[u16], group: &[u16], top: usize, v: usize) -> bool
-    requires { ⌜ Beside (now up) (now group) top v ⌝ }
-    ensures { λ r. ⌜ r ≡ groupRule (now (up .entry)) (tablesOf [] (now (group .entry)) []) v ⌝ }
+    requires { ⌜ Beside (now up) (now group) v ⌝ }
+    ensures { λ r. ⌜ r ≡ groupRule top (now (up .entry)) (now (group .entry)) v ⌝ }
 {
     if v == top {
         return true;
@@ -84,7 +82,7 @@ fn group_rule(up: &[u16], group: &[u16], top: usize, v: usize) -> bool
 // A machine that is not the name of its group is ringed, and so is the name; no machine is no ringed one.
 fn partner_rule(group: &[u16], mark: &[u8], top: usize, v: usize) -> bool
     requires { ⌜ (v < length (now group)) × (length (now mark) ≡ length (now group)) ⌝ }
-    ensures { λ r. ⌜ r ≡ partnerRuleAt top (now (group .entry)) (now (mark .entry)) v ⌝ }
+    ensures { λ r. ⌜ r ≡ partnerRule top (now (group .entry)) (now (mark .entry)) v ⌝ }
 {
     if v == top {
         return true;
@@ -101,8 +99,8 @@ fn partner_rule(group: &[u16], mark: &[u8], top: usize, v: usize) -> bool
 
 // The machine above a carried one is ringed, and is not the hub.
 fn carried_rule(up: &[u16], mark: &[u8], top: usize, v: usize) -> bool
-    requires { ⌜ Beside (now up) (now mark) top v ⌝ }
-    ensures { λ r. ⌜ r ≡ carriedRule (now (up .entry)) (tablesOf [] [] (now (mark .entry))) v ⌝ }
+    requires { ⌜ Beside (now up) (now mark) v ⌝ }
+    ensures { λ r. ⌜ r ≡ carriedRule top (now (up .entry)) (now (mark .entry)) v ⌝ }
 {
     let above = at(up, v);
     match mark[v] {
@@ -114,7 +112,7 @@ fn carried_rule(up: &[u16], mark: &[u8], top: usize, v: usize) -> bool
 // Whether machine v keeps every rule.
 fn keeps(up: &[u16], depth: &[u16], group: &[u16], mark: &[u8], top: usize, v: usize) -> bool
     requires { ⌜ Sized (now up) (now depth) (now group) (now mark) top × (v < length (now up)) ⌝ }
-    ensures { λ r. ⌜ r ≡ Rules.keeps (now (up .entry)) (tablesOf (now (depth .entry)) (now (group .entry)) (now (mark .entry))) v ⌝ }
+    ensures { λ r. ⌜ r ≡ Rules.keeps top (now (up .entry)) (tablesOf (now (depth .entry)) (now (group .entry)) (now (mark .entry))) v ⌝ }
 {
     if !depth_rule(up, depth, top, v) {
         return false;

@@ -1,6 +1,6 @@
 -- How a call's answer follows its checks: one that refuses is the answer, and what was lent is as it came; where all have passed, it is done.
 use mathlib.Core.Path.{_≡_, refl, sym, ap, _∙_}
-use mathlib.Core.List.{List, []}
+use mathlib.Core.List.{List}
 use Prim.Native.Nat.{ℕ, _≤_}
 use native.Mathlib.Omega.{arith}
 use lib.ListN.{length, take, replicate, length-take}
@@ -12,15 +12,15 @@ use Rattle.tables.specs.declared.Verdict.the-variants.{the-data as Verdict, Sou
 use Rattle.tables.specs.Tree.{mostMachines, hub, depthOf}
 use Rattle.tables.specs.Tables.{Tables, fresh}
 use Rattle.tables.specs.Batch.{pairs, after, rise}
-use Rattle.tables.specs.Report.{groupCarried, stuck, split, lone, machineByte, linkByte, machineBytes, linkBytes}
-use Rattle.tables.specs.Outcome.{Answer, answer, named, startOf, addVerdict, addOf, reportVerdict, reportOf}
+use Rattle.tables.specs.Report.{machineByte, linkByte, machineBytes, linkBytes}
+use Rattle.tables.specs.Outcome.{answer, named, startOf, addVerdict, addOf, reportVerdict, reportOf}
 use Rattle.tables.proofs.Sound.{sound-tree}
-use Rattle.tables.proofs.Histories as histories
+use Rattle.tables.proofs.Links as links-told
 use Rattle.tables.proofs.Rise.{rise-is}
 use Rattle.tables.specs.Lent.{tablesOf, bytesOf, outcome}
 use Rattle.checks.specs.Checked.{Lengths, Started}
 use Rattle.site.specs.RingStep.{Ready, Applied}
-use Rattle.site.specs.ReportFill.{linkByteAt, ReportSized, ReportFilled}
+use Rattle.site.specs.ReportFill.{ReportSized, ReportFilled}
 use Rattle.checks.proofs.Checking.{told, start-passed, add-passed, report-passed}
 
 module _ {A : Type 0} (came : A) (value : ℕ) (done : A) {c v : Verdict} where
@@ -66,11 +66,12 @@ module _ (up depth group mark : List ℕ) {c : Verdict} (e : c ≡ Sound) where
     pub add-ready : Ready up depth group mark batch
     add-ready =
         let (p, b) = add-passed up t batch (told e q) in
-        let s = sound-tree up (p .lived .tree) in
+        let k = p .site .stands in
+        let s = sound-tree up (k .tree) in
         record {
           few = p .sizes .few;
           tree = s;
-          depths = ap (λ u. u .depth) (sym (p .left)) ∙ histories.told s (p .history) (p .lived .batches) .depths;
+          depths = ap (λ u. u .depth) (sym (p .site .left)) ∙ links-told.told s (k .good) .depths;
           group-size = p .sizes .group-size;
           mark-size = p .sizes .mark-size;
           batch = b;
@@ -85,21 +86,19 @@ module _ (up depth group mark : List ℕ) {c : Verdict} (e : c ≡ Sound) where
         rw (v, a .tables) (accepted t (rise t t′) t′ e q)
 
   module _ (machines links : List ℕ) (q : c ≡ reportVerdict up t (bytesOf machines links)) where
-    pub report-ready : {top : ℕ} → top ≡ hub up → ReportSized up group mark top machines links
-    report-ready h =
+    pub report-ready : ReportSized up group mark machines links
+    report-ready =
         let (p, m, l) = report-passed up t (bytesOf machines links) (told e q) in
-        record { read = record { group-size = p .sizes .group-size; mark-size = p .sizes .mark-size; top = h }; machines-size = m; links-size = l }
+        record { read = record { group-size = p .sizes .group-size; mark-size = p .sizes .mark-size }; machines-size = m; links-size = l }
 
-    -- the depths are not read
-    pub report-done : {machines′ links′ : List ℕ} {r : ℕ} → ReportFilled up (tablesOf [] group mark) machines′ links′ r
+    pub report-done : {machines′ links′ : List ℕ} {r h : ℕ} → h ≡ hub up → ReportFilled up group mark h machines′ links′ r
         → outcome 0 r (bytesOf machines′ links′) ≡ reportOf up t (bytesOf machines links)
-    unfolding reportOf machineBytes machineByte stuck groupCarried split lone linkBytes linkByte
-    report-done a =
-        rw (a .counted, a .machines-are, a .links-are) (accepted (bytesOf machines links) (named (machineBytes up t)) (bytesOf (machineBytes up t) (linkBytes up t)) e q)
+    unfolding reportOf machineBytes linkBytes
+    report-done k a =
+        rw (a .counted, a .machines-are, a .links-are, k) (accepted (bytesOf machines links) (named (machineBytes up t)) (bytesOf (machineBytes up t) (linkBytes up t)) e q)
 
 -- both outputs by their rules, and the count of the first
-pub filled : {up group mark machines links machines′ links′ : List ℕ} {h r : ℕ} → ReportSized up group mark h machines links
-    → machines′ ≡ machineBytes up (tablesOf [] group mark) → links′ ≡ tabulate (length links) (linkByteAt h mark) → r ≡ named machines′
-    → ReportFilled up (tablesOf [] group mark) machines′ links′ r
-unfolding linkBytes linkByte
-filled s m l n = record { machines-are = m; links-are = l ∙ rw (s .links-size, s .read .top); counted = n ∙ ap named m }
+pub filled : {up group mark machines links machines′ links′ : List ℕ} {h r : ℕ} → ReportSized up group mark machines links
+    → machines′ ≡ tabulate (length up) (machineByte h up group mark) → links′ ≡ tabulate (length links) (linkByte h mark) → r ≡ named machines′
+    → ReportFilled up group mark h machines′ links′ r
+filled s m l n = record { machines-are = m; links-are = l ∙ rw (s .links-size); counted = n }

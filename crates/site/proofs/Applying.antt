@@ -14,7 +14,8 @@ use Rattle.tables.specs.Tables.{Tables}
 use Rattle.tables.specs.Link.{linked}
 use Rattle.tables.specs.Batch.{mostLinks, pairs, lengthVerdict, batchVerdict, after}
 use Rattle.tables.proofs.Verdicts.{all-sound, unless-sound}
-use Rattle.tables.proofs.Histories.{Good, batch-good}
+use Rattle.tables.specs.Links.{Good}
+use Rattle.tables.proofs.Histories.{batch-good}
 use Rattle.site.specs.RingStep.{Linkable, Links, Ready, Applied}
 
 -- the tables after one link more

@@ -13,7 +13,7 @@ use Rattle.graph.specs.Walk.{stay, step}
 use Rattle.graph.proofs.Walks.{join, one-step}
 use Rattle.rings.specs.Tree.{Uplink, Under}
 use Rattle.rings.proofs.Under.{rest, chain, in-tree, antisym, no-return, one-child}
-use Rattle.tables.specs.Tree.{treeOf}
+use Rattle.tables.specs.AsTree.{treeOf}
 use Rattle.tables.specs.Link.{over, meet, due, below}
 use Rattle.tables.specs.Demand1.{SoundTree}
 use Rattle.tables.proofs.Sound.{rooted}

@@ -1,7 +1,7 @@
 -- For callers: what an answer tells, so that none has to open a definition. Code 0 tells that every check passed, so the tree is sound and the
--- tables are those of a history; any other code is that of the first check that refused, and what was lent is as it came. And an outcome that
+-- tables are those of links that stand; any other code is that of the first check that refused, and what was lent is as it came. And an outcome that
 -- the promise allows is the only one.
-use mathlib.Core.Path.{_≡_, refl, sym, ap, _∙_, subst}
+use mathlib.Core.Path.{_≡_, refl, sym, ap, _∙_}
 use mathlib.Core.List.{List, []}
 use mathlib.Core.Logic.{_≢_}
 use Prim.Native.Nat.{ℕ}
@@ -14,13 +14,13 @@ use Rattle.tables.specs.Batch.{pairs, batchVerdict, after, rise}
 use Rattle.tables.specs.History.{Lived, leaves, tables}
 use Rattle.tables.specs.Report.{machineBytes, linkBytes}
 use Rattle.tables.specs.Outcome.{Answer, answer, Bytes, named, startVerdict, startOf, addVerdict, addOf, reportVerdict, reportOf}
-use Rattle.tables.specs.Demand2.{Reported}
+use Rattle.tables.specs.Demand2.{Relied}
 use Rattle.tables.proofs.Verdicts.{all-sound}
 use Rattle.tables.proofs.Codes.{numbered}
 use Rattle.graph.proofs.Members.{empty}
 use Rattle.tables.proofs.Demand2.{demand2}
 use Rattle.tables.specs.Lent.{outcome}
-use Rattle.checks.proofs.Checking.{Passed, add-passed, report-passed}
+use Rattle.checks.proofs.Checking.{Passed, add-passed}
 
 -- two outcomes that a promise allows coincide
 module _ {A : Type 0} {c v c′ v′ : ℕ} {l l′ : A} (a : Answer A) where
@@ -71,7 +71,7 @@ start-done up t e =
     let a = all-sound _ s in
     record { lived = record { size = a .0; tree = a .1 .1 .0; batches = λ b m. absurd (empty m) }; sizes = a .1 .0; counted = v; fresh-tables = l }
 
--- Add done: from the tables of a history to those of the history with one batch more
+-- Add done: from the tables of links that stand to those of these links and the batch's
 pub record Added (up batch : List ℕ) (t t′ : Tables) (value : ℕ) : Type 0 where
   pub before : Passed up t
   pub accepted : batchVerdict (length up) batch ≡ Sound
@@ -86,20 +86,9 @@ add-done up batch t e =
     let (p, b) = add-passed up t batch s in
     record { before = p; accepted = b; after-batch = l; rose = v ∙ ap (rise t) (sym l) }
 
--- Report done: it names the chokes of a history
-pub record Reporting (up : List ℕ) (t : Tables) (o : Bytes) (value : ℕ) : Type 0 where
-  pub before : Passed up t
-  pub counted : value ≡ named (o .machines)
-  pub reported : Reported up (before .history) (outcome 0 value o)
-
-pub report-done : {value : ℕ} {o′ : Bytes} (up : List ℕ) (t : Tables) (o : Bytes) → outcome 0 value o′ ≡ reportOf up t o → Reporting up t o′ value
-unfolding reportOf
-report-done up t o e =
-    let filled : Bytes = record { machines = machineBytes up t; links = linkBytes up t } in
-    let (s, v, l) = answer-sound o (named (machineBytes up t)) filled (reportVerdict up t o) e refl in
-    let (p, m, k) = report-passed up t o s in
-    let r : Reported up (p .history) (reportOf up t o) = subst (λ u. Reported up (p .history) (reportOf up u o)) (p .left) (demand2 .reports up (p .history) (p .lived) o m k) in
-    record { before = p; counted = v ∙ ap (λ x. named (x .machines)) (sym l); reported = rw e r }
+-- Report done: it can be relied on
+pub report-done : {value : ℕ} {o′ : Bytes} (up : List ℕ) (t : Tables) (o : Bytes) → outcome 0 value o′ ≡ reportOf up t o → Relied up t (outcome 0 value o′)
+report-done up t o e = rw e (demand2 .code-zero up t o (ap (λ r. r .code) (sym e)))
 
 -- a refusal: the first check that refused, and what was lent as it came
 pub start-refused : {c value : ℕ} {t′ : Tables} (up : List ℕ) (t : Tables) → c ≢ 0 → outcome c value t′ ≡ startOf up t → Refusal (startVerdict up t) c value × (t′ ≡ t)

@@ -14,7 +14,7 @@ use Rattle.plain.proofs.Tabulate.{tabulated}
 use Rattle.graph.specs.Walk.{stay}
 use Rattle.rings.specs.Tree.{Under}
 use Rattle.rings.proofs.Under.{in-tree, no-return}
-use Rattle.tables.specs.Tree.{treeOf}
+use Rattle.tables.specs.AsTree.{treeOf}
 use Rattle.tables.specs.Link.{meet, due, raised, below, grouped, renamed, joined}
 use Rattle.tables.specs.Demand1.{SoundTree}
 use Rattle.tables.proofs.Sound.{rooted}

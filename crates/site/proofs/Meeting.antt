@@ -12,7 +12,8 @@ use Rattle.graph.specs.Walk.{stay, step}
 use Rattle.rings.specs.Tree.{Under, Lowest}
 use Rattle.rings.proofs.Under.{uplinked, rest, at-hub, over, antisym}
 use Rattle.rings.proofs.Lowest.{turn}
-use Rattle.tables.specs.Tree.{depthOf, treeOf}
+use Rattle.tables.specs.Tree.{depthOf}
+use Rattle.tables.specs.AsTree.{treeOf}
 use Rattle.tables.specs.Link.{meet}
 use Rattle.tables.proofs.Sound.{rooted}
 use Rattle.tables.proofs.Lines.{meets}

@@ -17,7 +17,8 @@ use Rattle.graph.specs.Walk.{stay}
 use Rattle.graph.proofs.Walks.{join, one-step}
 use Rattle.rings.specs.Tree.{Uplink, Under}
 use Rattle.rings.proofs.Under.{uplinked, rest, at-hub, in-tree}
-use Rattle.tables.specs.Tree.{depthOf, treeOf}
+use Rattle.tables.specs.Tree.{depthOf}
+use Rattle.tables.specs.AsTree.{treeOf}
 use Rattle.tables.proofs.Sound.{soon, rooted}
 use Rattle.site.specs.RingStep.{Climbs, markFor, want, Top, Raises}
 use Rattle.site.proofs.Arms.{want-here, want-above, want-other, want-none}

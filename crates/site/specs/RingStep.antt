@@ -10,7 +10,8 @@ use lib.Dec.{eqb}
 use Rattle.plain.specs.Table.{at, tabulate, total}
 use Rattle.rings.specs.Tree.{Uplink, Under}
 use Rattle.tables.specs.declared.Verdict.the-variants.{Sound}
-use Rattle.tables.specs.Tree.{mostMachines, depthOf, treeOf}
+use Rattle.tables.specs.Tree.{mostMachines, depthOf}
+use Rattle.tables.specs.AsTree.{treeOf}
 use Rattle.tables.specs.Tables.{Tables}
 use Rattle.tables.specs.Link.{over, joined, raised, grouped}
 use Rattle.tables.specs.Batch.{pairs, batchVerdict, after}

@@ -1,22 +1,19 @@
-// The report of a site: a byte for each machine, and one for each uplink. A table that a test does not read is [] in its contract.
+// The report of a site: a byte for each machine, and one for each uplink.
 use checks::at;
 ghost use mathlib.Core.Path.{_≡_};
 ghost use mathlib.Core.Bool.{cond};
-ghost use mathlib.Core.List.{[]};
 ghost use Prim.Native.Nat.{_<_};
 ghost use lib.ListN.{length};
 ghost use Rattle.plain.specs.Search.{some, count};
 ghost use Rattle.plain.specs.Table.{tabulate};
 ghost use Rattle.tables.specs.Outcome.{named};
-ghost use Rattle.tables.specs.Report.{child, stuck, split, ends, lone, machineByte, machineBytes};
-ghost use Rattle.tables.specs.Tree.{hub};
-ghost use Rattle.tables.specs.Lent.{tablesOf};
-ghost use Rattle.site.specs.ReportFill.{carriedMember, stuckChild, inTwo, loneEnd, linkByteAt, ReportTable, ReportRead, ReportSized, ReportFilled};
+ghost use Rattle.tables.specs.Report.{child, carriedMember, stuckChild, stuck, inTwo, split, ends, loneEnd, lone, machineByte, linkByte};
+ghost use Rattle.site.specs.ReportFill.{ReportRead, ReportSized, ReportFilled};
 
 // Whether c is a child of w; the hub is no child.
 fn child(up: &[u16], top: usize, w: usize, c: usize) -> bool
-    requires { ⌜ (c < length (now up)) × (top ≡ hub (now up)) ⌝ }
-    ensures { λ r. ⌜ r ≡ child (now (up .entry)) w c ⌝ }
+    requires { ⌜ c < length (now up) ⌝ }
+    ensures { λ r. ⌜ r ≡ child top (now (up .entry)) w c ⌝ }
 {
     if c == top {
         return false;
@@ -55,8 +52,8 @@ fn group_carried(group: &[u16], mark: &[u8], g: usize) -> bool
 
 // Whether c is a child of w whose group has no carried member.
 fn stuck_child(up: &[u16], group: &[u16], mark: &[u8], top: usize, w: usize, c: usize) -> bool
-    requires { ⌜ ReportRead (now up) (now group) (now mark) top × (c < length (now up)) ⌝ }
-    ensures { λ r. ⌜ r ≡ stuckChild (now (up .entry)) (tablesOf [] (now (group .entry)) (now (mark .entry))) w c ⌝ }
+    requires { ⌜ ReportRead (now up) (now group) (now mark) × (c < length (now up)) ⌝ }
+    ensures { λ r. ⌜ r ≡ stuckChild top (now (up .entry)) (now (group .entry)) (now (mark .entry)) w c ⌝ }
 {
     if !child(up, top, w, c) {
         return false;
@@ -66,8 +63,8 @@ fn stuck_child(up: &[u16], group: &[u16], mark: &[u8], top: usize, w: usize, c: 
 
 // Line 1: some child's group has no carried member.
 fn stuck(up: &[u16], group: &[u16], mark: &[u8], top: usize, w: usize) -> bool
-    requires { ⌜ ReportRead (now up) (now group) (now mark) top ⌝ }
-    ensures { λ r. ⌜ r ≡ stuck (now (up .entry)) (tablesOf [] (now (group .entry)) (now (mark .entry))) w ⌝ }
+    requires { ⌜ ReportRead (now up) (now group) (now mark) ⌝ }
+    ensures { λ r. ⌜ r ≡ stuck top (now (up .entry)) (now (group .entry)) (now (mark .entry)) w ⌝ }
 {
     let mut c = 0;
     while c < up.len() {
@@ -81,8 +78,8 @@ fn stuck(up: &[u16], group: &[u16], mark: &[u8], top: usize, w: usize) -> bool
 
 // Whether c and d are children of w in two groups.
 fn in_two(up: &[u16], group: &[u16], top: usize, w: usize, c: usize, d: usize) -> bool
-    requires { ⌜ ReportTable (now up) (now group) top × (c < length (now up)) × (d < length (now up)) ⌝ }
-    ensures { λ r. ⌜ r ≡ inTwo (now (up .entry)) (now (group .entry)) w c d ⌝ }
+    requires { ⌜ (length (now group) ≡ length (now up)) × (c < length (now up)) × (d < length (now up)) ⌝ }
+    ensures { λ r. ⌜ r ≡ inTwo top (now (up .entry)) (now (group .entry)) w c d ⌝ }
 {
     if !child(up, top, w, c) {
         return false;
@@ -95,8 +92,8 @@ fn in_two(up: &[u16], group: &[u16], top: usize, w: usize, c: usize, d: usize) -
 
 // Whether some child of w is in another group than its child c.
 fn other_group(up: &[u16], group: &[u16], top: usize, w: usize, c: usize) -> bool
-    requires { ⌜ ReportTable (now up) (now group) top × (c < length (now up)) ⌝ }
-    ensures { λ r. ⌜ r ≡ some (length (now (up .entry))) (inTwo (now (up .entry)) (now (group .entry)) w c) ⌝ }
+    requires { ⌜ (length (now group) ≡ length (now up)) × (c < length (now up)) ⌝ }
+    ensures { λ r. ⌜ r ≡ some (length (now (up .entry))) (inTwo top (now (up .entry)) (now (group .entry)) w c) ⌝ }
 {
     let mut d = 0;
     while d < up.len() {
@@ -110,8 +107,8 @@ fn other_group(up: &[u16], group: &[u16], top: usize, w: usize, c: usize) -> boo
 
 // Line 2: the children are in two or more groups.
 fn split(up: &[u16], group: &[u16], top: usize, w: usize) -> bool
-    requires { ⌜ ReportTable (now up) (now group) top ⌝ }
-    ensures { λ r. ⌜ r ≡ split (now (up .entry)) (tablesOf [] (now (group .entry)) []) w ⌝ }
+    requires { ⌜ length (now group) ≡ length (now up) ⌝ }
+    ensures { λ r. ⌜ r ≡ split top (now (up .entry)) (now (group .entry)) w ⌝ }
 {
     let mut c = 0;
     while c < up.len() {
@@ -125,8 +122,8 @@ fn split(up: &[u16], group: &[u16], top: usize, w: usize) -> bool
 
 // Whether the uplink of v ends at w: it is w's own or a child's.
 fn ends(up: &[u16], top: usize, w: usize, v: usize) -> bool
-    requires { ⌜ (v < length (now up)) × (top ≡ hub (now up)) ⌝ }
-    ensures { λ r. ⌜ r ≡ ends (now (up .entry)) w v ⌝ }
+    requires { ⌜ v < length (now up) ⌝ }
+    ensures { λ r. ⌜ r ≡ ends top (now (up .entry)) w v ⌝ }
 {
     if v == top {
         return false;
@@ -139,8 +136,8 @@ fn ends(up: &[u16], top: usize, w: usize, v: usize) -> bool
 
 // Whether the uplink of v ends at w and is lone.
 fn lone_end(up: &[u16], mark: &[u8], top: usize, w: usize, v: usize) -> bool
-    requires { ⌜ ReportTable (now up) (now mark) top × (v < length (now up)) ⌝ }
-    ensures { λ r. ⌜ r ≡ loneEnd (now (up .entry)) (now (mark .entry)) w v ⌝ }
+    requires { ⌜ (length (now mark) ≡ length (now up)) × (v < length (now up)) ⌝ }
+    ensures { λ r. ⌜ r ≡ loneEnd top (now (up .entry)) (now (mark .entry)) w v ⌝ }
 {
     if !ends(up, top, w, v) {
         return false;
@@ -153,8 +150,8 @@ fn lone_end(up: &[u16], mark: &[u8], top: usize, w: usize, v: usize) -> bool
 
 // Whether some lone uplink ends at w.
 fn ends_lone(up: &[u16], mark: &[u8], top: usize, w: usize) -> bool
-    requires { ⌜ ReportTable (now up) (now mark) top ⌝ }
-    ensures { λ r. ⌜ r ≡ some (length (now (up .entry))) (loneEnd (now (up .entry)) (now (mark .entry)) w) ⌝ }
+    requires { ⌜ length (now mark) ≡ length (now up) ⌝ }
+    ensures { λ r. ⌜ r ≡ some (length (now (up .entry))) (loneEnd top (now (up .entry)) (now (mark .entry)) w) ⌝ }
 {
     let mut v = 0;
     while v < up.len() {
@@ -175,8 +172,7 @@ fn one(test: bool) -> usize
 
 // How many uplinks end at w.
 fn count_ends(up: &[u16], top: usize, w: usize) -> usize
-    requires { ⌜ top ≡ hub (now up) ⌝ }
-    ensures { λ r. ⌜ r ≡ count (length (now (up .entry))) (ends (now (up .entry)) w) ⌝ }
+    ensures { λ r. ⌜ r ≡ count (length (now (up .entry))) (ends top (now (up .entry)) w) ⌝ }
 {
     let mut n: usize = 0;
     let mut v = 0;
@@ -189,8 +185,8 @@ fn count_ends(up: &[u16], top: usize, w: usize) -> usize
 
 // Line 3: w ends a lone uplink, and two or more uplinks end at w.
 fn lone(up: &[u16], mark: &[u8], top: usize, w: usize) -> bool
-    requires { ⌜ ReportTable (now up) (now mark) top ⌝ }
-    ensures { λ r. ⌜ r ≡ lone (now (up .entry)) (tablesOf [] [] (now (mark .entry))) w ⌝ }
+    requires { ⌜ length (now mark) ≡ length (now up) ⌝ }
+    ensures { λ r. ⌜ r ≡ lone top (now (up .entry)) (now (mark .entry)) w ⌝ }
 {
     if !ends_lone(up, mark, top, w) {
         return false;
@@ -200,16 +196,16 @@ fn lone(up: &[u16], mark: &[u8], top: usize, w: usize) -> bool
 
 // The last two lines of the machine byte.
 fn lone_byte(up: &[u16], mark: &[u8], top: usize, w: usize) -> u8
-    requires { ⌜ ReportTable (now up) (now mark) top ⌝ }
-    ensures { λ r. ⌜ r ≡ cond (lone (now (up .entry)) (tablesOf [] [] (now (mark .entry))) w) 3 0 ⌝ }
+    requires { ⌜ length (now mark) ≡ length (now up) ⌝ }
+    ensures { λ r. ⌜ r ≡ cond (lone top (now (up .entry)) (now (mark .entry)) w) 3 0 ⌝ }
 {
     if lone(up, mark, top, w) { 3 } else { 0 }
 }
 
 // The machine byte of w: the first line that applies. Only the hub has line 2, and it has no line 1.
 fn machine_byte(up: &[u16], group: &[u16], mark: &[u8], top: usize, w: usize) -> u8
-    requires { ⌜ ReportRead (now up) (now group) (now mark) top ⌝ }
-    ensures { λ r. ⌜ r ≡ machineByte (now (up .entry)) (tablesOf [] (now (group .entry)) (now (mark .entry))) w ⌝ }
+    requires { ⌜ ReportRead (now up) (now group) (now mark) ⌝ }
+    ensures { λ r. ⌜ r ≡ machineByte top (now (up .entry)) (now (group .entry)) (now (mark .entry)) w ⌝ }
 {
     if w == top {
         if split(up, group, top, w) {
@@ -227,7 +223,7 @@ fn machine_byte(up: &[u16], group: &[u16], mark: &[u8], top: usize, w: usize) ->
 // The link byte of v: 1 if v is not the hub and its mark is 0.
 fn link_byte(mark: &[u8], top: usize, v: usize) -> u8
     requires { ⌜ v < length (now mark) ⌝ }
-    ensures { λ r. ⌜ r ≡ linkByteAt top (now (mark .entry)) v ⌝ }
+    ensures { λ r. ⌜ r ≡ linkByte top (now (mark .entry)) v ⌝ }
 {
     if v == top {
         return 0;
@@ -240,8 +236,8 @@ fn link_byte(mark: &[u8], top: usize, v: usize) -> u8
 
 // All machine bytes, in number order.
 fn fill_machines(up: &[u16], group: &[u16], mark: &[u8], top: usize, machines: &mut [u8])
-    requires { ⌜ ReportRead (now up) (now group) (now mark) top × (length (now machines) ≡ length (now up)) ⌝ }
-    ensures { λ _. ⌜ now (machines .exit) ≡ machineBytes (now (up .entry)) (tablesOf [] (now (group .entry)) (now (mark .entry))) ⌝ }
+    requires { ⌜ ReportRead (now up) (now group) (now mark) × (length (now machines) ≡ length (now up)) ⌝ }
+    ensures { λ _. ⌜ now (machines .exit) ≡ tabulate (length (now (up .entry))) (machineByte top (now (up .entry)) (now (group .entry)) (now (mark .entry))) ⌝ }
 {
     let mut w = 0;
     while w < up.len() {
@@ -253,7 +249,7 @@ fn fill_machines(up: &[u16], group: &[u16], mark: &[u8], top: usize, machines: &
 // All link bytes, in number order.
 fn fill_links(mark: &[u8], top: usize, links: &mut [u8])
     requires { ⌜ length (now links) ≡ length (now mark) ⌝ }
-    ensures { λ _. ⌜ now (links .exit) ≡ tabulate (length (now (links .entry))) (linkByteAt top (now (mark .entry))) ⌝ }
+    ensures { λ _. ⌜ now (links .exit) ≡ tabulate (length (now (links .entry))) (linkByte top (now (mark .entry))) ⌝ }
 {
     let mut v = 0;
     while v < mark.len() {
@@ -284,8 +280,8 @@ pub fn fill(
     machines: &mut [u8],
     links: &mut [u8],
 ) -> usize
-    requires { ⌜ ReportSized (now up) (now group) (now mark) top (now machines) (now links) ⌝ }
-    ensures { λ r. ⌜ ReportFilled (now (up .entry)) (tablesOf [] (now (group .entry)) (now (mark .entry))) (now (machines .exit)) (now (links .exit)) r ⌝ }
+    requires { ⌜ ReportSized (now up) (now group) (now mark) (now machines) (now links) ⌝ }
+    ensures { λ r. ⌜ ReportFilled (now (up .entry)) (now (group .entry)) (now (mark .entry)) top (now (machines .exit)) (now (links .exit)) r ⌝ }
 {
     fill_machines(up, group, mark, top, machines);
     fill_links(mark, top, links);

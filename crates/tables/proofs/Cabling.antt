@@ -22,12 +22,13 @@ use Rattle.graph.proofs.Cables.{linked-append, linked-between, says-joins, Same
 use Rattle.rings.specs.Tree.{Uplink}
 use Rattle.rings.specs.Network.{rising, falling, cross, Cabled, CabledBut}
 use Rattle.rings.proofs.Under.{uplinked, no-return}
-use Rattle.tables.specs.Tree.{hub, treeOf}
-use Rattle.tables.specs.History.{History, Accepted, links}
+use Rattle.tables.specs.Tree.{hub}
+use Rattle.tables.specs.AsTree.{treeOf}
+use Rattle.tables.specs.Links.{AllGood}
 use Rattle.tables.specs.Cables.{uplinks, cables, ChokeMachine, ChokeUplink}
 use Rattle.tables.specs.Demand1.{SoundTree}
 use Rattle.tables.proofs.Sound.{rooted}
-use Rattle.tables.proofs.Histories.{within, links-good}
+use Rattle.tables.proofs.Links.{within}
 
 -- what stands on the list of uplinks is one, and each stands there
 uplinks-are : (up : List ℕ) (k : ℕ) {x y : ℕ} → (x, y) ∈ uplinks up k → (x < k) × (x ≢ hub up) × (at up x ≡ y)
@@ -127,7 +128,7 @@ uplink-cabled s l v h = (
   λ k. record { machine = h; other = k .0; parted = λ w. k .1 (map (λ a b. less-cabled s h (k .0) l a b .0) w) },
 )
 
-pub cables-within : {up : List ℕ} → SoundTree up → (h : History) → Accepted (length up) h → Within (length up) (cables up (links h))
-cables-within {up} s h f a b m = ⊎-elim
+pub cables-within : {up : List ℕ} {l : Cables} → SoundTree up → AllGood (length up) l → Within (length up) (cables up l)
+cables-within {up} s g a b m = ⊎-elim
     (λ i. let r = uplink-on up a b .0 i in (r .low, rooted s .low r))
-    (within (links-good (length up) h f) a b) (parts (all-uplinks up) m)
+    (within g a b) (parts (all-uplinks up) m)

@@ -1,63 +1,72 @@
--- The calls over the tables of a history: no rule is broken and every length is right, so only the batch can be refused.
-use mathlib.Core.Path.{_≡_, refl, ap, _∙_}
-use mathlib.Core.List.{List, [], _∷_, _++_}
+-- The calls over the tables of links that stand: no rule is broken and every length is right, so only the batch can be refused.
+use mathlib.Core.Path.{_≡_, sym, ap, _∙_}
+use mathlib.Core.List.{List, [], _∷_, _++_, append-nil, append-assoc}
 use Prim.Native.Nat.{ℕ, _+_, _-_, _*_, _%_}
 use native.Mathlib.Omega.{arith}
 use lib.ListN.{length}
 use borrow.Author.Tests.{eq-eqb}
 use Rattle.plain.specs.Table.{total}
+use Rattle.graph.specs.Cable.{Cables}
 use Rattle.plain.proofs.Says.{says-lt, says-le, says-eq, says-and}
 use Rattle.plain.proofs.Tabulate.{length-tabulate}
 use Rattle.tables.specs.Verdict.{Sound, checks}
 use Rattle.tables.specs.Tree.{depthOf, sizeVerdict}
-use Rattle.tables.specs.Tables.{Tables, fresh, tableSizes}
+use Rattle.tables.specs.Tables.{fresh, tableSizes}
 use Rattle.tables.specs.Batch.{pairs, lengthVerdict, batchVerdict, after, rise}
-use Rattle.tables.specs.History.{History, Accepted, links, leaves, tables}
+use Rattle.tables.specs.Links.{AllGood, Stands, tablesWith}
+use Rattle.tables.specs.History.{History, links, leaves}
 use Rattle.tables.specs.Rules.{rulesVerdict}
 use Rattle.tables.specs.Outcome.{answer, startVerdict, startOf, addVerdict, addOf}
 use Rattle.tables.specs.Demand1.{SoundTree}
-use Rattle.tables.specs.Calls.{CallsLive, Limits}
+use Rattle.tables.specs.Calls.{Adds, CallsLive, Limits}
 use Rattle.tables.proofs.Verdicts.{checks-one, unless-sound}
 use Rattle.tables.proofs.Sound.{sound-tree}
-use Rattle.tables.proofs.Histories.{lived-network, told}
+use Rattle.tables.proofs.Links.{after-append, network, told}
+use Rattle.tables.proofs.Histories.{only-links}
 use Rattle.tables.proofs.Rise.{rise-is}
 use Rattle.tables.proofs.Kept.{told-kept, kept-sound}
 
-module _ {up : List ℕ} {h : History} (s : SoundTree up) (f : Accepted (length up) h) where
-  pub rules-met : rulesVerdict up (tables up h) ≡ Sound
-  rules-met = kept-sound up (tables up h) (told-kept s (lived-network s h f) (told s h f))
+module _ {up : List ℕ} {l : Cables} (s : SoundTree up) (g : AllGood (length up) l) where
+  pub rules-met : rulesVerdict up (tablesWith up l) ≡ Sound
+  rules-met = kept-sound up (tablesWith up l) (told-kept s (network s g) (told s g))
 
-  pub sizes-met : checks (tableSizes up (tables up h)) ≡ Sound
+  pub sizes-met : checks (tableSizes up (tablesWith up l)) ≡ Sound
   unfolding checks tableSizes
   sizes-met =
-      let k = told s h f in
+      let t = tablesWith up l in
+      let k = told s g in
       rw (
-        eq-eqb (length (tables up h .depth)) (length up) (ap length (k .depths) ∙ length-tabulate (length up) (depthOf up)),
-        eq-eqb (length (tables up h .group)) (length up) (k .named .size),
-        eq-eqb (length (tables up h .mark)) (length up) (k .marked .size),
+        eq-eqb (length (t .depth)) (length up) (ap length (k .depths) ∙ length-tabulate (length up) (depthOf up)),
+        eq-eqb (length (t .group)) (length up) (k .named .size),
+        eq-eqb (length (t .mark)) (length up) (k .marked .size),
       )
 
-leaves-append : (up : List ℕ) (h : History) (batch : List ℕ) (t : Tables) → leaves up (h ++ (batch ∷ [])) t ≡ after up (pairs batch) (leaves up h t)
-unfolding leaves
-leaves-append up [] batch t = refl
-leaves-append up (b ∷ h) batch t = leaves-append up h batch (after up (pairs b) t)
+adds : (up : List ℕ) (l : Cables) → Stands up l → (batch : List ℕ) → Adds up batch (tablesWith up l) (tablesWith up (l ++ pairs batch))
+unfolding answer addOf addVerdict checks
+adds up l st batch =
+    let t = tablesWith up l in
+    let t′ = after up (pairs batch) t in
+    let s = sound-tree up (st .tree) in
+    let rose : rise t t′ + total (t .mark) ≡ total (t′ .mark) = rise-is up (pairs batch) t (told s (st .good) .marked .size) in
+    let e : rise t t′ ≡ total (t′ .mark) - total (t .mark) = omega arith in
+    rw (after-append up l (pairs batch) (fresh up)) (record {
+      add = rw (st .size, sizes-met s (st .good), st .tree, rules-met s (st .good), e)
+          (ap (λ v. answer v t (total (t′ .mark) - total (t .mark)) t′) (checks-one (batchVerdict (length up) batch)));
+      rises = omega arith;
+    })
+
+links-append : (h : History) (batch : List ℕ) → links (h ++ (batch ∷ [])) ≡ links h ++ pairs batch
+unfolding links
+links-append [] batch = append-nil (pairs batch)
+links-append (b ∷ h) batch = ap (λ l. pairs b ++ l) (links-append h batch) ∙ sym (append-assoc (pairs b) (links h) (pairs batch))
 
 pub calls-live : CallsLive
-unfolding answer startOf startVerdict addOf addVerdict checks leaves
-calls-live up h l =
-    let s = sound-tree up (l .tree) in
-    let z = sizes-met s (l .batches) in
-    let r = rules-met s (l .batches) in
-    let rose : (batch : List ℕ) → rise (tables up h) (after up (pairs batch) (tables up h)) + total (tables up h .mark) ≡ total (after up (pairs batch) (tables up h) .mark) =
-    λ batch. rise-is up (pairs batch) (tables up h) (told s h (l .batches) .marked .size) in
-    record {
-      start = λ t e. rw (l .size, e, l .tree);
-      add = λ batch. rw (l .size, z, l .tree, r, leaves-append up h batch (fresh up))
-          (let t = after up (pairs batch) (tables up h) in
-          let e : rise (tables up h) t ≡ total (t .mark) - total (tables up h .mark) = omega (arith, rose batch) in
-          rw e (ap (λ v. answer v (tables up h) (total (t .mark) - total (tables up h .mark)) t) (checks-one (batchVerdict (length up) batch))));
-      rises = λ batch. rw (leaves-append up h batch (fresh up)) (omega (arith, rose batch));
-    }
+unfolding startOf startVerdict checks answer leaves
+calls-live = record {
+  start = λ up t l e. rw (l .size, e, l .tree);
+  after-batches = λ up h l batch. rw (only-links .leave up h, only-links .leave up (h ++ (batch ∷ [])), links-append h batch) (adds up (links h) (only-links .stand up h l) batch);
+  with-links = adds;
+}
 
 pub limits : Limits
 unfolding sizeVerdict lengthVerdict

@@ -1,26 +1,23 @@
--- Tables that break no rule are left by a history: the links that they want, each a batch. Tables that tell of the same links are one,
--- so nothing has to be stepped through.
+-- Tables that break no rule are those of the links that they want: tables that tell of the same links are one, so nothing has to be
+-- stepped through.
 use mathlib.Core.Path.{_≡_, refl, sym, ap, subst}
 use mathlib.Core.Bool.{Bool, true, false, cond, not}
-use mathlib.Core.List.{List, [], _∷_, map, Memᴰ·of-map}
+use mathlib.Core.List.{List, [], _∷_}
 use mathlib.Core.Logic.{_⊎_, inl, inr, ⊎-map, dite}
 use Prim.Native.Nat.{ℕ, zero, suc, _<_}
 use native.Mathlib.Decide.{ℕ-discrete}
 use native.Mathlib.Omega.{arith}
 use lib.ListN.{length}
 use lib.Dec.{eqb, leb}
-use borrow.Author.Tests.{ne-eqb, lt-leb}
 use Rattle.plain.proofs.Says.{Says, says-eq, says-le, says-not}
 use Rattle.plain.specs.Table.{at}
 use Rattle.plain.specs.Member.{_∈_}
 use Rattle.graph.specs.Cable.{Cables, Linked}
 use Rattle.graph.proofs.Members.{here, there, empty, cases}
-use Rattle.tables.specs.Batch.{pairs, lengthVerdict, endsVerdict, batchVerdict}
-use Rattle.tables.specs.History.{Accepted, Left, links}
+use Rattle.tables.specs.Links.{Good, AllGood, tablesWith}
 use Rattle.tables.specs.Tables.{Tables}
 use Rattle.tables.specs.Tree.{depthOf}
-use Rattle.tables.specs.Verdict.{Sound, checks}
-use Rattle.tables.proofs.Histories.{Good, AllGood, told}
+use Rattle.tables.proofs.Links.{told}
 use Rattle.tables.proofs.Kept.{Kept}
 use Rattle.tables.specs.Demand1.{SoundTree}
 use Rattle.tables.proofs.Sound.{depth-up}
@@ -78,22 +75,6 @@ module _ (up : List ℕ) (t : Tables) where
   wanted-wishes (suc n) {a} {b} h p = dite (ℕ-discrete a n) (λ e. subst (λ v. (a, b) ∈ wishes (suc v)) e (newest-wish p))
       (λ o. past-maybe _ _ (past-maybe _ _ (past-maybe _ _ (wanted-wishes n (omega arith) p))))
 
--- each link a batch
-abbrev alone : ℕ × ℕ → List ℕ
-alone p = p .0 ∷ (p .1 ∷ [])
-
-links-alone : (l : Cables) → links (map alone l) ≡ l
-unfolding links pairs
-links-alone [] = refl
-links-alone (p ∷ l) = ap (λ k. p ∷ k) (links-alone l)
-
-alone-sound : (n : ℕ) (p : ℕ × ℕ) → Good n p → batchVerdict n (alone p) ≡ Sound
-unfolding batchVerdict lengthVerdict endsVerdict checks pairs
-alone-sound n p g = rw (lt-leb n (p .0) (g .one), lt-leb n (p .1) (g .two), ne-eqb (p .0) (p .1) (g .apart))
-
-alone-accepted : (n : ℕ) (l : Cables) → AllGood n l → Accepted n (map alone l)
-alone-accepted n l g batch m = let (p, i, e) = Memᴰ·of-map alone l m in rw (← e) (alone-sound n p (g p i))
-
 module _ {up : List ℕ} {t : Tables} (s : SoundTree up) (k : (v : ℕ) → v < length up → Kept up t v) where
   wanted-good : {v b : ℕ} → v < length up → Wanted up t v b → Good (length up) (v, b)
   wanted-good {v} h (ring m) = record { one = h; two = s .inside v h; apart = λ e. ringed-other s k v h m (s .only v h (sym e)) }
@@ -105,13 +86,13 @@ module _ {up : List ℕ} {t : Tables} (s : SoundTree up) (k : (v : ℕ) → v < 
   all-good : AllGood (length up) (wishes up t (length up))
   all-good p m = let (h, w) = wishes-wanted up t (length up) m in wanted-good h w
 
-  -- A history that leaves these tables.
-  pub complete : length (t .depth) ≡ length up → length (t .group) ≡ length up → length (t .mark) ≡ length up → Left up t
+  -- Good links that leave these tables.
+  pub complete : length (t .depth) ≡ length up → length (t .group) ≡ length up → length (t .mark) ≡ length up
+      → (l : Cables) × AllGood (length up) l × (tablesWith up l ≡ t)
   complete ld lg lm =
       let l = wishes up t (length up) in
-      let a = alone-accepted (length up) l all-good in
       let q : Told up (Linked l) t = told-map
       (λ x y. ⊎-map (λ p. wanted-wishes up t (length up) (p .0) (p .1)) (λ p. wanted-wishes up t (length up) (p .0) (p .1)))
       (λ x y. ⊎-map (wishes-wanted up t (length up)) (wishes-wanted up t (length up)))
       (wants-told s k ld lg lm) in
-      (map alone l, a, told-one (rw links-alone at (told s (map alone l) a)) q)
+      (l, all-good, told-one (told s all-good) q)

@@ -1,4 +1,4 @@
--- Demand 1. That the rules are exact is both halves together: no history breaks one, and for tables that break none a history is given.
+-- Demand 1. That the rules are exact is both halves together: no links break one, and for tables that break none their links are given.
 -- Add and Report come to the rules once the lengths and the tree are right, and no later check answers 6.
 use mathlib.Core.Path.{_≡_, refl, _∙_}
 use mathlib.Core.List.{List, [], _∷_}
@@ -7,10 +7,12 @@ use Prim.Native.Nat.{ℕ}
 use native.Mathlib.Omega.{arith}
 use lib.ListN.{length}
 use borrow.Author.Tests.{eq-eqb, eqb-true}
+use Rattle.graph.specs.Cable.{Cables}
 use Rattle.tables.specs.Verdict.{Fault, Verdict, Sound, Refused, checks}
 use Rattle.tables.specs.Tree.{treeVerdict, sizeVerdict}
 use Rattle.tables.specs.Tables.{Tables, tableSizes}
 use Rattle.tables.specs.Batch.{batchVerdict}
+use Rattle.tables.specs.Links.{AllGood, tablesWith, SiteOf}
 use Rattle.tables.specs.History.{Left}
 use Rattle.tables.specs.Rules.{breaks, rulesVerdict}
 use Rattle.tables.specs.Outcome.{answer, Bytes, startOf, addVerdict, addOf, reportVerdict, reportOf}
@@ -19,17 +21,26 @@ use Rattle.tables.proofs.Verdicts.{not-both, all-sound, Avoids, All, ch
 use Rattle.tables.proofs.Codes.{batch-avoids}
 use Rattle.tables.proofs.Sound.{sound-tree, trees-exact}
 use Rattle.tables.proofs.Kept.{sound-kept}
+use Rattle.tables.proofs.Histories.{left-links}
 use Rattle.tables.proofs.Complete.{complete}
 use Rattle.tables.proofs.Calls.{rules-met}
 
-pub rules-exact : (up : List ℕ) (t : Tables) → treeVerdict up ≡ Sound → checks (tableSizes up t) ≡ Sound → (rulesVerdict up t ≡ Sound) ↔ Left up t
+-- the links of tables that break no rule
+pub rules-links : (up : List ℕ) (t : Tables) → treeVerdict up ≡ Sound → checks (tableSizes up t) ≡ Sound → rulesVerdict up t ≡ Sound
+    → (l : Cables) × AllGood (length up) l × (tablesWith up l ≡ t)
 unfolding tableSizes
+rules-links up t e z r =
+    let a = all-sound _ z in
+    complete (sound-tree up e) (sound-kept up t r) (eqb-true _ _ (unless-sound _ _ _ (a .0))) (eqb-true _ _ (unless-sound _ _ _ (a .1 .0))) (eqb-true _ _ (unless-sound _ _ _ (a .1 .1 .0)))
+
+pub rules-exact : (up : List ℕ) (t : Tables) → treeVerdict up ≡ Sound → checks (tableSizes up t) ≡ Sound → (rulesVerdict up t ≡ Sound) ↔ Left up t
 rules-exact up t e z =
-    let s = sound-tree up e in
-    let a = all-sound _ z in (
-      λ r. complete s (sound-kept up t r) (eqb-true _ _ (unless-sound _ _ _ (a .0))) (eqb-true _ _ (unless-sound _ _ _ (a .1 .0))) (eqb-true _ _ (unless-sound _ _ _ (a .1 .1 .0))),
-      λ k. rw (k .2) at (rules-met s (k .1)),
-    )
+    let k = left-links up t in
+    (λ r. k .1 (rules-links up t e z r), λ i. let (l, g, q) = k .0 i in rw q at (rules-met (sound-tree up e) g))
+
+-- the site of tables that pass every check
+pub site-of : (up : List ℕ) (t : Tables) → sizeVerdict (length up) ≡ Sound → treeVerdict up ≡ Sound → checks (tableSizes up t) ≡ Sound → rulesVerdict up t ≡ Sound → SiteOf up t
+site-of up t n e z r = let (l, g, q) = rules-links up t e z r in record { links = l; stands = record { size = n; tree = e; good = g }; left = q }
 
 -- what follows the rules does not answer 6
 answer-code : {A : Type 0} (v : Verdict) (came : A) (value : ℕ) (done : A) → Avoids 6 v → answer v came value done .code ≢ 6

@@ -1,62 +1,94 @@
--- Demand 2: the report of a history's tables is done, and its bytes are the chokes of the theory's network, which are those by taking out.
-use mathlib.Core.Path.{_≡_, refl, _∙_}
+-- Demand 2: the report of the tables of links that stand is done, and its bytes are the chokes of the theory's network, which are those by
+-- taking out.
+use mathlib.Core.Path.{_≡_, refl, _∙_, subst}
 use mathlib.Core.List.{List, _++_}
 use mathlib.Core.Logic.{Iff·rfl, Iff·symm, Iff·trans, Iff·and}
 use Prim.Native.Nat.{ℕ}
 use lib.ListN.{length}
-use Rattle.plain.specs.Table.{at}
+use borrow.Author.Tests.{eqb-true}
 use Rattle.plain.proofs.Tabulate.{at-tabulate}
+use Rattle.graph.specs.Cable.{Cables}
 use Rattle.graph.proofs.Walks.{map}
 use Rattle.graph.proofs.Cables.{flip, linked?}
 use Rattle.graph.proofs.Members.{on-right, here}
 use Rattle.rings.proofs.Crossing.{tree-joins}
-use Rattle.tables.specs.Verdict.{Sound}
-use Rattle.tables.specs.History.{History, Lived, links, tables}
+use Rattle.tables.specs.Verdict.{Verdict, Sound, Refused}
+use Rattle.tables.specs.Tree.{hub}
+use Rattle.tables.specs.Tables.{Tables, tableSizes}
+use Rattle.tables.specs.Links.{Stands, tablesWith}
 use Rattle.tables.specs.Report.{machineByte, linkByte, machineBytes, linkBytes}
 use Rattle.tables.specs.Outcome.{answer, Bytes, reportVerdict, reportOf}
-use Rattle.tables.specs.Demand2.{Reported, CrossSpare, Demand2}
-use Rattle.tables.proofs.Verdicts.{sound-all}
+use Rattle.tables.specs.Demand1.{SoundTree}
+use Rattle.tables.specs.Demand2.{Reported, CrossSpare, ChokesNamed, Relied, Demand2}
+use Rattle.tables.proofs.Verdicts.{all-sound, sound-all, unless-sound}
+use Rattle.tables.proofs.Codes.{numbered}
 use Rattle.tables.proofs.Sound.{sound-tree, rooted}
-use Rattle.tables.proofs.Histories.{lived-network, links-good, told}
+use Rattle.tables.proofs.Links.{network, told}
+use Rattle.tables.proofs.Histories.{only-links}
 use Rattle.tables.proofs.Reports.{machine-bytes, hub-byte, link-bytes, never-three}
 use Rattle.tables.proofs.Cabling.{linked-cabled, machine-cabled, uplink-cabled}
 use Rattle.tables.proofs.Calls.{rules-met, sizes-met}
-use Rattle.tables.proofs.Demand1.{rules-exact, report-came}
+use Rattle.tables.proofs.Demand1.{rules-links, site-of, report-came}
 
-report-done : (up : List ℕ) (h : History) → Lived up h → (o : Bytes) → length (o .machines) ≡ length up → length (o .links) ≡ length up
-    → reportVerdict up (tables up h) o ≡ Sound
-report-done up h l o a b =
-    let s = sound-tree up (l .tree) in
-    report-came up (tables up h) (l .size) (l .tree) (sizes-met s (l .batches)) o a b ∙ sound-all _ (rules-met s (l .batches), tt)
+module _ {up : List ℕ} {l : Cables} (st : Stands up l) where
+  abbrev t : Tables
+  t = tablesWith up l
 
-reports : (up : List ℕ) (h : History) → Lived up h → (o : Bytes) → length (o .machines) ≡ length up → length (o .links) ≡ length up
-    → Reported up h (reportOf up (tables up h) o)
-unfolding answer reportOf machineBytes linkBytes
-reports up h l o a b =
-    let t = tables up h in
-    let s = sound-tree up (l .tree) in
-    let N = lived-network s h (l .batches) in
-    let d = linked? (links h) in
-    let k = told s h (l .batches) in
-    rw (report-done up h l o a b) (record {
-      done = refl;
-      machines = λ w i. rw (at-tabulate (length up) (machineByte up t) w i) (Iff·trans (machine-bytes N d k w i) (Iff·symm (machine-cabled up (links h) w)));
-      hub-byte = λ w i. rw (at-tabulate (length up) (machineByte up t) w i) (Iff·trans (hub-byte N d k w i) (Iff·and Iff·rfl (Iff·symm (machine-cabled up (links h) w))));
-      uplinks = λ v i. rw (at-tabulate (length up) (linkByte up t) v i) (Iff·trans (link-bytes N d k v i) (Iff·symm (uplink-cabled s (links h) v i)));
-    })
+  s : SoundTree up
+  s = sound-tree up (st .tree)
 
-cross-links : (up : List ℕ) (h : History) → Lived up h → CrossSpare up h
-cross-links up h l xs ys a b e =
-    let s = sound-tree up (l .tree) in
-    let g = links-good (length up) h (l .batches) (a, b) (rw e (on-right xs (here refl))) in
-    map (λ x y. linked-cabled up (xs ++ ys) x y .1) (tree-joins (rooted s) (flip (xs ++ ys)) (g .one) (g .two))
+  module _ (o : Bytes) (a : length (o .machines) ≡ length up) (b : length (o .links) ≡ length up) where
+    report-done : reportVerdict up t o ≡ Sound
+    report-done = report-came up t (st .size) (st .tree) (sizes-met s (st .good)) o a b ∙ sound-all _ (rules-met s (st .good), tt)
+
+    reports : Reported up l (reportOf up t o)
+    unfolding answer reportOf machineBytes linkBytes
+    reports =
+        let N = network s (st .good) in
+        let d = linked? l in
+        let k = told s (st .good) in
+        rw report-done (record {
+          done = refl;
+          machines = λ w i. rw (at-tabulate (length up) (machineByte (hub up) up (t .group) (t .mark)) w i) (Iff·trans (machine-bytes N d k w i) (Iff·symm (machine-cabled up l w)));
+          hub-byte = λ w i. rw (at-tabulate (length up) (machineByte (hub up) up (t .group) (t .mark)) w i) (Iff·trans (hub-byte N d k w i) (Iff·and Iff·rfl (Iff·symm (machine-cabled up l w))));
+          uplinks = λ v i. rw (at-tabulate (length up) (linkByte (hub up) (t .mark)) v i) (Iff·trans (link-bytes N d k v i) (Iff·symm (uplink-cabled s l v i)));
+          counted = refl;
+        })
+
+  cross-links : CrossSpare up l
+  cross-links xs ys a b e =
+      let g = st .good (a, b) (rw e (on-right xs (here refl))) in
+      map (λ x y. linked-cabled up (xs ++ ys) x y .1) (tree-joins (rooted s) (flip (xs ++ ys)) (g .one) (g .two))
+
+  chokes-named : ChokesNamed up l t
+  chokes-named = record { reports = reports; cross-links = cross-links }
+
+module _ {A : Type 0} (came : A) (value : ℕ) (done : A) where
+  -- code 0: every check has passed
+  zero-sound : (v : Verdict) → answer v came value done .code ≡ 0 → v ≡ Sound
+  unfolding answer
+  zero-sound Sound e = refl
+  zero-sound (Refused why place) e = absurd (numbered why e)
+
+code-zero : (up : List ℕ) (t : Tables) (o : Bytes) → reportOf up t o .code ≡ 0 → Relied up t (reportOf up t o)
+unfolding reportOf reportVerdict tableSizes
+code-zero up t o e =
+    let (size, (slices, (tree, (rules, _)))) = all-sound _ (zero-sound _ _ _ (reportVerdict up t o) e) in
+    let (d, (g, (m, (x, (y, _))))) = all-sound _ slices in
+    record {
+      site = site-of up t size tree (sound-all (tableSizes up t) (d, (g, (m, tt)))) rules;
+      reported = λ k. subst (λ u. Reported up (k .links) (reportOf up u o)) (k .left)
+          (reports (k .stands) o (eqb-true _ _ (unless-sound _ _ _ x)) (eqb-true _ _ (unless-sound _ _ _ y)));
+    }
 
 pub demand2 : Demand2
+unfolding machineBytes
 demand2 = record {
-  reports = reports;
-  cross-links = cross-links;
+  after-batches = λ up h l. rw (only-links .leave up h) (chokes-named (only-links .stand up h l));
+  with-links = λ up l. chokes-named;
+  code-zero = code-zero;
   never-three = λ up t e z r w h.
-      let (i, a, q) = rules-exact up t e z .0 r in
+      let (l, g, q) = rules-links up t e z r in
       let s = sound-tree up e in
-      rw q at (never-three (lived-network s i a) (linked? (links i)) (told s i a) w h);
+      rw (at-tabulate (length up) (machineByte (hub up) up (t .group) (t .mark)) w h, ← q) (never-three (network s g) (linked? l) (told s g) w h);
 }

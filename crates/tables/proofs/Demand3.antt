@@ -19,14 +19,16 @@ use Rattle.rings.specs.Tree.{Uplink}
 use Rattle.rings.specs.Network.{Cabled, rising, falling}
 use Rattle.rings.proofs.Under.{uplinked}
 use Rattle.rings.proofs.Crossing.{tree-joins}
-use Rattle.tables.specs.Tree.{treeOf}
-use Rattle.tables.specs.History.{History, links}
+use Rattle.tables.specs.AsTree.{treeOf}
+use Rattle.tables.specs.Links.{Stands}
+use Rattle.tables.specs.History.{links}
 use Rattle.tables.specs.Outcome.{Answer, Bytes}
 use Rattle.tables.specs.Cables.{uplinks, cables, ChokeMachine, ChokeUplink, ChokeEnds}
 use Rattle.tables.specs.Demand1.{SoundTree}
 use Rattle.tables.specs.Demand2.{Reported}
-use Rattle.tables.specs.Demand3.{Renumbered, Carried, NamedEnds, Demand3}
+use Rattle.tables.specs.Demand3.{Renumbered, NamedEnds, Carried, TwoWays, Demand3}
 use Rattle.tables.proofs.Sound.{sound-tree, rooted}
+use Rattle.tables.proofs.Histories.{only-links}
 use Rattle.tables.proofs.Cabling.{all-uplinks, uplink-linked, cables-within}
 
 module _ {up : List ℕ} (s : SoundTree up) (l : Cables) where
@@ -83,49 +85,59 @@ module _ {up : List ℕ} (s : SoundTree up) (l : Cables) where
       let z : at up v ≡ v = ⊎-elim (λ k. sym (k .1) ∙ sym e ∙ k .0) (λ k. sym (k .1) ∙ e ∙ k .0) (c .ends) in
       c .choke .other (s .only v (c .choke .machine) z)
 
-module _ {up : List ℕ} {h : History} {up′ : List ℕ} {h′ : History} {f : ℕ → ℕ} (r : Renumbered up h up′ h′ f) where
-  one : SoundTree up
-  one = sound-tree up (r .before .tree)
-
-  two : SoundTree up′
-  two = sound-tree up′ (r .after .tree)
-
-  within : Within (length up) (cables up (links h))
-  within = cables-within one h (r .before .batches)
-
-  within′ : Within (length up) (cables up′ (links h′))
-  within′ = rw (r .same-size) (cables-within two h′ (r .after .batches))
-
-  into : (v : ℕ) → v < length up → f v < length up′
-  into v i = rw (r .same-size) at (r .one-to-one .into v i)
-
-  carried : Carried up h up′ h′ f
-  carried = record {
-    machines = λ w i. subst (λ n. ChokeMachine up (links h) w ↔ Choke n (Linked (cables up′ (links h′))) (f w)) (r .same-size)
-        (machines-carried _ f _ _ within within′ (r .one-to-one) (cables-links _ f _ _ (r .keeps)) w i);
-    uplinks = λ a b i j.
-        let p = ends-pair one (links h) a b i j in
-        let q = ends-pair two (links h′) (f a) (f b) (into a i) (into b j) in
-        let go = pairs-carried _ f _ _ within within′ (r .one-to-one) (r .keeps) a b i j in (
-          λ c. q .1 (go (ends-apart one (links h) c) .0 (p .0 c)),
-          λ c. p .1 (go (λ e. ends-apart two (links h′) c (ap f e)) .1 (q .0 c)),
-        );
-  }
-
 -- what a report names are the choke uplinks' ends
-named-ends : {up : List ℕ} {h : History} {r : Answer Bytes} → Reported up h r → (a b : ℕ) → NamedEnds up r a b ↔ ChokeEnds up (links h) a b
+named-ends : {up : List ℕ} {l : Cables} {r : Answer Bytes} → Reported up l r → (a b : ℕ) → NamedEnds up r a b ↔ ChokeEnds up l a b
 named-ends q a b = (
   λ n. record { lower = n .lower; choke = q .uplinks (n .lower) (n .machine) .0 (n .byte); ends = n .ends },
   λ c. record { lower = c .lower; machine = c .choke .machine; byte = q .uplinks (c .lower) (c .choke .machine) .1 (c .choke); ends = c .ends },
 )
 
+module _ {up : List ℕ} {l : Cables} {up′ : List ℕ} {l′ : Cables} {f : ℕ → ℕ} (s : Stands up l) (s′ : Stands up′ l′) (r : Renumbered up l up′ l′ f) where
+  one : SoundTree up
+  one = sound-tree up (s .tree)
+
+  two : SoundTree up′
+  two = sound-tree up′ (s′ .tree)
+
+  within : Within (length up) (cables up l)
+  within = cables-within one (s .good)
+
+  within′ : Within (length up) (cables up′ l′)
+  within′ = rw (r .same-size) (cables-within two (s′ .good))
+
+  into : (v : ℕ) → v < length up → f v < length up′
+  into v i = rw (r .same-size) at (r .one-to-one .into v i)
+
+  machines : (w : ℕ) → w < length up → ChokeMachine up l w ↔ ChokeMachine up′ l′ (f w)
+  machines w i = subst (λ n. ChokeMachine up l w ↔ Choke n (Linked (cables up′ l′)) (f w)) (r .same-size)
+      (machines-carried _ f _ _ within within′ (r .one-to-one) (cables-links _ f _ _ (r .keeps)) w i)
+
+  ends : (a b : ℕ) → a < length up → b < length up → ChokeEnds up l a b ↔ ChokeEnds up′ l′ (f a) (f b)
+  ends a b i j =
+      let p = ends-pair one l a b i j in
+      let q = ends-pair two l′ (f a) (f b) (into a i) (into b j) in
+      let go = pairs-carried _ f _ _ within within′ (r .one-to-one) (r .keeps) a b i j in (
+        λ c. q .1 (go (ends-apart one l c) .0 (p .0 c)),
+        λ c. p .1 (go (λ e. ends-apart two l′ c (ap f e)) .1 (q .0 c)),
+      )
+
+  carried : Carried up l up′ l′ f
+  carried = record {
+    machines = machines;
+    uplinks = ends;
+    reports = λ x y p q. record {
+      machines = λ w i. Iff·trans (p .machines w i) (Iff·trans (machines w i) (Iff·symm (q .machines (f w) (into w i))));
+      uplinks = λ a b i j. Iff·trans (named-ends p a b) (Iff·trans (ends a b i j) (Iff·symm (named-ends q (f a) (f b))));
+    };
+  }
+
+two-ways : (up : List ℕ) (l : Cables) → Stands up l → TwoWays up l
+two-ways up l s m r p z = two-paths (length up) (cables up l) m (cables-within (sound-tree up (s .tree)) (s .good)) .0 (λ w i c. p .machines w i .1 c (z w i))
+
 pub demand3 : Demand3
 demand3 = record {
-  carried = λ up h up′ h′ f. carried;
-  reports = λ up h up′ h′ f n r r′ p q. let c = carried n in record {
-    machines = λ w i. Iff·trans (p .machines w i) (Iff·trans (c .machines w i) (Iff·symm (q .machines (f w) (into n w i))));
-    uplinks = λ a b i j. Iff·trans (named-ends p a b) (Iff·trans (c .uplinks a b i j) (Iff·symm (named-ends q (f a) (f b))));
-  };
-  two-paths = λ up h l m r p z.
-      two-paths (length up) (cables up (links h)) m (cables-within (sound-tree up (l .tree)) h (l .batches)) .0 (λ w i c. p .machines w i .1 c (z w i));
+  after-batches = λ up h up′ h′ f a b. carried (only-links .stand up h a) (only-links .stand up′ h′ b);
+  two-paths = λ up h a. two-ways up (links h) (only-links .stand up h a);
+  with-links = λ up l up′ l′ f. carried;
+  two-paths-with-links = two-ways;
 }

@@ -14,7 +14,7 @@ use Rattle.graph.proofs.Walks.{join}
 use Rattle.rings.proofs.Lowest.{turn, leaves-on, on-leaves, deep-leaves}
 use Rattle.rings.specs.Tree.{Tree, Under}
 use Rattle.tables.specs.Link.{meet, ring, due}
-use Rattle.tables.specs.Tree.{treeOf}
+use Rattle.tables.specs.AsTree.{treeOf}
 use Rattle.tables.specs.Demand1.{SoundTree}
 use Rattle.tables.proofs.Sound.{rooted}
 use Rattle.tables.proofs.Lines.{up-over, meets, says-over}

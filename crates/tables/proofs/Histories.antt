@@ -1,39 +1,24 @@
--- What the tables tell after a history: link after link, what they tell grows by that link; batches only cut the run into pieces.
-use mathlib.Core.Path.{_≡_, refl, sym, _∙_}
+-- Batches only cut the links into pieces: an accepted batch has good links, a history's tables are those of its links, and each good link is
+-- an accepted batch of its own.
+use mathlib.Core.Path.{_≡_, refl, sym, ap, _∙_}
 use mathlib.Core.Bool.{_||_}
-use mathlib.Core.List.{List, [], _∷_, _++_, append-nil}
-use mathlib.Core.Logic.{_≢_, inl, inr, ⊎-elim, ⊎-map}
-use Prim.Native.Nat.{ℕ, suc, _<_, _≤_}
+use mathlib.Core.List.{List, [], _∷_, map, Memᴰ·of-map}
+use mathlib.Core.Logic.{inl, inr, ⊎-elim, _↔_}
+use Prim.Native.Nat.{ℕ, suc, _≤_}
 use native.Mathlib.Omega.{arith}
 use lib.ListN.{length}
 use lib.Dec.{eqb, leb}
-use borrow.Author.Tests.{eqb-false}
+use borrow.Author.Tests.{eqb-false, ne-eqb, lt-leb}
 use Rattle.plain.proofs.Says.{says-le, says-or, refuted}
-use Rattle.plain.specs.Member.{_∈_}
-use Rattle.graph.specs.Cable.{Cables, Linked, Within}
-use Rattle.graph.proofs.Cables.{flip, linked-near}
-use Rattle.graph.proofs.Members.{keep, here, there, cases, empty, parts, on-left, on-right}
-use Rattle.rings.specs.Network.{Network}
-use Rattle.tables.specs.Batch.{pairs, endsVerdict, batchVerdict, after}
-use Rattle.tables.specs.History.{History, Accepted, links, leaves, tables}
-use Rattle.tables.specs.Link.{linked}
+use Rattle.graph.specs.Cable.{Cables}
+use Rattle.graph.proofs.Members.{here, there, cases, empty, parts}
+use Rattle.tables.specs.Batch.{pairs, lengthVerdict, endsVerdict, batchVerdict, after}
+use Rattle.tables.specs.Links.{Good, AllGood, tablesWith}
+use Rattle.tables.specs.History.{History, Accepted, Left, links, leaves, OnlyLinks}
 use Rattle.tables.specs.Tables.{Tables, fresh}
-use Rattle.tables.specs.Tree.{depthOf, treeOf}
-use Rattle.tables.specs.Verdict.{Sound}
-use Rattle.tables.specs.Demand1.{SoundTree}
+use Rattle.tables.specs.Verdict.{Sound, checks}
 use Rattle.tables.proofs.Verdicts.{all-sound, cond-refused}
-use Rattle.tables.proofs.Sound.{rooted}
-use Rattle.tables.proofs.Naming.{told-more}
-use Rattle.tables.proofs.Told.{Told, told-map, fresh-told}
-
--- both ends of each link are machines, and differ
-pub record Good (n : ℕ) (p : ℕ × ℕ) : Type 0 where
-  pub one : p .0 < n
-  pub two : p .1 < n
-  pub apart : p .0 ≢ p .1
-
-abbrev pub AllGood : ℕ → Cables → Type 0
-AllGood n l = (p : ℕ × ℕ) → p ∈ l → Good n p
+use Rattle.tables.proofs.Links.{after-append}
 
 ends-good : (n i : ℕ) (l : Cables) → endsVerdict n i l ≡ Sound → AllGood n l
 unfolding endsVerdict
@@ -57,45 +42,37 @@ links-good n [] f p m = absurd (empty m)
 links-good n (batch ∷ h) f p m =
     ⊎-elim (batch-good n batch (f batch (here refl)) p) (links-good n h (λ b k. f b (there k)) p) (parts (pairs batch) m)
 
-after-append : (up : List ℕ) (l k : Cables) (t : Tables) → after up (l ++ k) t ≡ after up k (after up l t)
-unfolding after
-after-append up [] k t = refl
-after-append up (p ∷ l) k t = after-append up l k (linked up (p .0) (p .1) t)
-
--- batches do not matter, only their links
-pub leaves-after : (up : List ℕ) (h : History) (t : Tables) → leaves up h t ≡ after up (links h) t
+leaves-after : (up : List ℕ) (h : History) (t : Tables) → leaves up h t ≡ after up (links h) t
 unfolding leaves links after
 leaves-after up [] t = refl
 leaves-after up (batch ∷ h) t = leaves-after up h (after up (pairs batch) t) ∙ sym (after-append up (pairs batch) (links h) t)
 
-pub within : {n : ℕ} {l : Cables} → AllGood n l → Within n l
-within g a b m = (g (a, b) m .one, g (a, b) m .two)
+-- each link a batch
+abbrev alone : ℕ × ℕ → List ℕ
+alone p = p .0 ∷ (p .1 ∷ [])
 
-network : {up : List ℕ} → SoundTree up → (l : Cables) → AllGood (length up) l → Network (treeOf up) (Linked l)
-network {up} s l g = record { rank = depthOf up; rooted = rooted s; flip = flip l; near = λ a b m. linked-near l (within g) a b m .0 }
+links-alone : (l : Cables) → links (map alone l) ≡ l
+unfolding links pairs
+links-alone [] = refl
+links-alone (p ∷ l) = ap (λ k. p ∷ k) (links-alone l)
 
--- the network of a history's links
-pub lived-network : {up : List ℕ} → SoundTree up → (h : History) → Accepted (length up) h → Network (treeOf up) (Linked (links h))
-lived-network {up} s h f = network s (links h) (links-good (length up) h f)
+alone-sound : (n : ℕ) (p : ℕ × ℕ) → Good n p → batchVerdict n (alone p) ≡ Sound
+unfolding batchVerdict lengthVerdict endsVerdict checks pairs
+alone-sound n p g = rw (lt-leb n (p .0) (g .one), lt-leb n (p .1) (g .two), ne-eqb (p .0) (p .1) (g .apart))
 
-front : {p q : ℕ × ℕ} (l k : Cables) → q ∈ l ++ (p ∷ k) → q ∈ p ∷ (l ++ k)
-front l k m = ⊎-elim (λ i. there (on-left k i)) (λ i. ⊎-elim here (λ j. there (on-right l j)) (cases i)) (parts l m)
+alone-accepted : (n : ℕ) (l : Cables) → AllGood n l → Accepted n (map alone l)
+alone-accepted n l g batch m = let (p, i, e) = Memᴰ·of-map alone l m in rw (← e) (alone-sound n p (g p i))
 
-inner : {p q : ℕ × ℕ} (l k : Cables) → q ∈ p ∷ (l ++ k) → q ∈ l ++ (p ∷ k)
-inner l k m = ⊎-elim (λ e. on-right l (here e)) (λ i. ⊎-elim (on-left _) (λ j. on-right l (there j)) (parts l i)) (cases m)
+pub only-links : OnlyLinks
+only-links = record {
+  stand = λ up h l. record { size = l .size; tree = l .tree; good = links-good (length up) h (l .batches) };
+  leave = λ up h. leaves-after up h (fresh up);
+  lived = λ up l s. (map alone l, record { size = s .size; tree = s .tree; batches = alone-accepted (length up) l (s .good) }, links-alone l);
+}
 
-after-told : {up : List ℕ} (s : SoundTree up) (l k : Cables) {t : Tables} → AllGood (length up) (l ++ k) → Told up (Linked k) t → Told up (Linked (l ++ k)) (after up l t)
-unfolding after ⊎-map
-after-told s [] k g q = q
-after-told s (p ∷ l) k g q =
-    let e = g p (here refl) in
-    let N = network s (p ∷ k) (λ r m. g r (keep (λ _. on-right l) r m)) in
-    told-map (λ a b. ⊎-map (front l k) (front l k)) (λ a b. ⊎-map (inner l k) (inner l k))
-    (after-told s l (p ∷ k) (λ r m. g r (front l k m)) (told-more s (e .one) (e .two) N q))
-
--- The tables that a history leaves tell of its links.
-pub told : {up : List ℕ} → SoundTree up → (h : History) → Accepted (length up) h → Told up (Linked (links h)) (tables up h)
-told {up} s h f =
-    let z : Told up (Linked []) (fresh up) = fresh-told up (Linked []) (λ a b. ⊎-elim empty empty) in
-    let g = links-good (length up) h f in
-    rw leaves-after (rw append-nil at (after-told s (links h) [] (rw append-nil g) z))
+-- some history leaves the tables where some good links do
+pub left-links : (up : List ℕ) (t : Tables) → Left up t ↔ ((l : Cables) × AllGood (length up) l × (tablesWith up l ≡ t))
+left-links up t = (
+  λ (h, f, e). (links h, links-good (length up) h f, sym (leaves-after up h (fresh up)) ∙ e),
+  λ (l, g, e). (map alone l, alone-accepted (length up) l g, leaves-after up (map alone l) (fresh up) ∙ rw links-alone e),
+)

@@ -20,9 +20,10 @@ use Rattle.rings.proofs.Under.{uplinked}
 use Rattle.rings.specs.Group.{SameGroup}
 use Rattle.rings.specs.Network.{Network}
 use Rattle.rings.specs.Tree.{Tree}
-use Rattle.tables.specs.Rules.{depthRule, hubRule, markRule, groupRule, partnerRule, carriedRule, keeps, breaks, rulesVerdict}
+use Rattle.tables.specs.Rules.{depthRule, groupRule, carriedRule, keeps, breaks, rulesVerdict}
 use Rattle.tables.specs.Tables.{Tables}
-use Rattle.tables.specs.Tree.{hub, depthOf, treeOf}
+use Rattle.tables.specs.Tree.{hub, depthOf}
+use Rattle.tables.specs.AsTree.{treeOf}
 use Rattle.tables.specs.Verdict.{Fault, Sound}
 use Rattle.tables.specs.Demand1.{SoundTree}
 use Rattle.tables.proofs.Verdicts.{none-refused, refuse-none}
@@ -38,8 +39,8 @@ pub record Kept (up : List ℕ) (t : Tables) (v : ℕ) : Type 0 where
   pub partner : v ≢ hub up → at (t .group) v ≢ v → (1 ≤ at (t .mark) (at (t .group) v)) × (1 ≤ at (t .mark) v)
   pub carried : at (t .mark) v ≡ 2 → (at up v ≢ hub up) × (1 ≤ at (t .mark) (at up v))
 
-says-keeps : (up : List ℕ) (t : Tables) (v : ℕ) → Says (keeps up t v) (Kept up t v)
-unfolding keeps depthRule hubRule markRule groupRule partnerRule carriedRule
+says-keeps : (up : List ℕ) (t : Tables) (v : ℕ) → Says (keeps (hub up) up t v) (Kept up t v)
+unfolding keeps depthRule groupRule carriedRule
 says-keeps up t v =
     let g = at (t .group) v in
     let m = at (t .mark) v in
@@ -90,8 +91,8 @@ module _ {up : List ℕ} {L : Relation} {t : Tables} (s : SoundTree up) (N : Net
 
 pub kept-sound : (up : List ℕ) (t : Tables) → ((v : ℕ) → v < length up → Kept up t v) → rulesVerdict up t ≡ Sound
 unfolding rulesVerdict breaks
-kept-sound up t f = refuse-none Fault.Rule (length up) (λ v. not (keeps up t v)) (λ v h. ap not (says-keeps up t v .takes (f v h)))
+kept-sound up t f = refuse-none Fault.Rule (length up) (λ v. not (keeps (hub up) up t v)) (λ v h. ap not (says-keeps up t v .takes (f v h)))
 
 pub sound-kept : (up : List ℕ) (t : Tables) → rulesVerdict up t ≡ Sound → (v : ℕ) → v < length up → Kept up t v
 unfolding rulesVerdict breaks
-sound-kept up t e v h = says-keeps up t v .gives (not-false (keeps up t v) (none-refused Fault.Rule (length up) (λ v. not (keeps up t v)) e v h))
+sound-kept up t e v h = says-keeps up t v .gives (not-false (keeps (hub up) up t v) (none-refused Fault.Rule (length up) (λ v. not (keeps (hub up) up t v)) e v h))

@@ -6,6 +6,7 @@ pub mod Dues
 pub mod Told
 pub mod Marking
 pub mod Naming
+pub mod Links
 pub mod Histories
 pub mod Kept
 pub mod Wanted

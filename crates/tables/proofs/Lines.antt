@@ -17,7 +17,8 @@ use Rattle.graph.proofs.Walks.{one-step, join}
 use Rattle.rings.proofs.Under.{uplinked, last, at-hub, hub-over, in-tree}
 use Rattle.rings.specs.Tree.{Uplink, Under, Lowest}
 use Rattle.tables.specs.Link.{over, first, meet, below}
-use Rattle.tables.specs.Tree.{climb, hub, depthOf, treeOf}
+use Rattle.tables.specs.Tree.{climb, hub, depthOf}
+use Rattle.tables.specs.AsTree.{treeOf}
 use Rattle.tables.specs.Demand1.{SoundTree}
 use Rattle.tables.proofs.Climb.{climb-add, climb-in}
 use Rattle.tables.proofs.Sound.{soon, depth-up, rooted}

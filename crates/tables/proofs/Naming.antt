@@ -24,7 +24,7 @@ use Rattle.rings.proofs.Lowest.{turn, leaves-on}
 use Rattle.rings.specs.Tree.{Lowest, Under, Uplink}
 use Rattle.tables.specs.Link.{meet, below, renamed, joined, grouped, linked}
 use Rattle.tables.specs.Tables.{Tables}
-use Rattle.tables.specs.Tree.{treeOf}
+use Rattle.tables.specs.AsTree.{treeOf}
 use Rattle.tables.specs.Demand1.{SoundTree}
 use Rattle.tables.proofs.Sound.{rooted}
 use Rattle.tables.proofs.Told.{Told, Named, group-up}

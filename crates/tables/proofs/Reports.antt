@@ -26,13 +26,14 @@ use Rattle.rings.proofs.Groups.{member}
 use Rattle.rings.proofs.Uplinks.{uplink-chokes}
 use Rattle.rings.proofs.Decided.{machine-chokes, hub-chokes}
 use Rattle.rings.proofs.Lone.{reason-three-never}
-use Rattle.tables.specs.Tree.{hub, treeOf}
+use Rattle.tables.specs.Tree.{hub}
+use Rattle.tables.specs.AsTree.{treeOf}
 use Rattle.tables.specs.Tables.{Tables}
-use Rattle.tables.specs.Report.{child, groupCarried, stuck, split, ends, lone, machineByte, linkByte}
+use Rattle.tables.specs.Report.{child, stuck, split, ends, lone, machineByte, linkByte}
 use Rattle.tables.proofs.Told.{Told, group-name, group-law}
 
 module _ {up : List ℕ} {L : Relation} {t : Tables} (N : Network (treeOf up) L) (link? : Decided L) (k : Told up L t) where
-  says-child : (w c : ℕ) → c < length up → Says (child up w c) (Uplink (treeOf up) c w)
+  says-child : (w c : ℕ) → c < length up → Says (child (hub up) up w c) (Uplink (treeOf up) c w)
   unfolding child
   says-child w c h = says-map (λ q. search) (λ r. search) (says-and (says-not (says-eq c (hub up))) (says-eq (at up c) w))
 
@@ -40,15 +41,15 @@ module _ {up : List ℕ} {L : Relation} {t : Tables} (N : Network (treeOf up) L)
   kin : {w c d : ℕ} → Uplink (treeOf up) c w → d < length up → at (t .group) c ≡ at (t .group) d → SameGroup (treeOf up) L w c d
   kin {c = c} {d} r h e = rw (r .to) at (group-law N (k .named) c d (r .low) h .0 e)
 
-  says-stuck : (w : ℕ) → Says (stuck up t w) ((c : ℕ) × Stuck (treeOf up) L w c)
-  unfolding stuck groupCarried
+  says-stuck : (w : ℕ) → Says (stuck (hub up) up (t .group) (t .mark) w) ((c : ℕ) × Stuck (treeOf up) L w c)
+  unfolding stuck
   says-stuck w = says-map
       (λ (c, h, (r, q)). (c, (r, λ m g p. let l = member r g .low in q (m, l, (sym (group-name (k .named) g), k .marked .carried m l .1 p)))))
       (λ (c, (r, q)). (c, r .low, (r, λ (m, l, (e, z)). q m (kin r l (sym e)) (k .marked .carried m l .0 z))))
       (says-some (length up) (λ c h. says-and (says-child w c h)
       (says-not (says-some (length up) (λ m _. says-and (says-eq (at (t .group) m) (at (t .group) c)) (says-eq (at (t .mark) m) 2))))))
 
-  says-split : (w : ℕ) → Says (split up t w) ((c : ℕ) × (d : ℕ) × Split (treeOf up) L w c d)
+  says-split : (w : ℕ) → Says (split (hub up) up (t .group) w) ((c : ℕ) × (d : ℕ) × Split (treeOf up) L w c d)
   unfolding split
   says-split w = says-map
       (λ (c, h, (d, l, (r, (s, q)))). (c, d, (r, s, λ g. q (group-name (k .named) g))))
@@ -67,7 +68,7 @@ module _ {up : List ℕ} {L : Relation} {t : Tables} (N : Network (treeOf up) L)
   split-choke : ((c : ℕ) × (d : ℕ) × Split (treeOf up) L (hub up) c d) ↔ Chokes (hub up)
   split-choke = Iff·symm (hub-chokes (treeOf up) L N link?)
 
-  says-ends : (w v : ℕ) → Says (ends up w v) ((v ≢ hub up) × ((v ≡ w) ⊎ (at up v ≡ w)))
+  says-ends : (w v : ℕ) → Says (ends (hub up) up w v) ((v ≢ hub up) × ((v ≡ w) ⊎ (at up v ≡ w)))
   unfolding ends
   says-ends w v = says-and (says-not (says-eq v (hub up))) (says-or (says-eq v w) (says-eq (at up v) w))
 
@@ -75,14 +76,14 @@ module _ {up : List ℕ} {L : Relation} {t : Tables} (N : Network (treeOf up) L)
   unringed v h z g = omega (arith, k .marked .ringed v h .1 g)
 
   -- 3 applies to chokes alone, so never after 1 and 2
-  lone-never : (w : ℕ) → w < length up → ¬ Chokes w → lone up t w ≡ false
+  lone-never : (w : ℕ) → w < length up → ¬ Chokes w → lone (hub up) up (t .mark) w ≡ false
   unfolding lone
   lone-never w h q = refutes
-      (says-and (says-some (length up) (λ v _. says-and (says-ends w v) (says-eq (at (t .mark) v) 0))) (says-le 2 (count (length up) (ends up w)))) none
+      (says-and (says-some (length up) (λ v _. says-and (says-ends w v) (says-eq (at (t .mark) v) 0))) (says-le 2 (count (length up) (ends (hub up) up w)))) none
     where
-      none : ¬ (((v : ℕ) × (v < length up) × (((v ≢ hub up) × ((v ≡ w) ⊎ (at up v ≡ w))) × (at (t .mark) v ≡ 0))) × (2 ≤ count (length up) (ends up w)))
+      none : ¬ (((v : ℕ) × (v < length up) × (((v ≢ hub up) × ((v ≡ w) ⊎ (at up v ≡ w))) × (at (t .mark) v ≡ 0))) × (2 ≤ count (length up) (ends (hub up) up w)))
       none ((v, l, ((o, f), z)), c) =
-          let (d, m, ne, e) = count-other (length up) (ends up w) v c in
+          let (d, m, ne, e) = count-other (length up) (ends (hub up) up w) v c in
           let (o′, f′) = says-ends w d .gives e in
           let never = reason-three-never (treeOf up) L N in
           let lone-v = unringed v l z in
@@ -102,19 +103,19 @@ module _ {up : List ℕ} {L : Relation} {t : Tables} (N : Network (treeOf up) L)
     two : w ≡ hub up → Chokes w → Byte w 2
     nought : ¬ Chokes w → Byte w 0
 
-  byte-is : (w : ℕ) → w < length up → Byte w (machineByte up t w)
+  byte-is : (w : ℕ) → w < length up → Byte w (machineByte (hub up) up (t .group) (t .mark) w)
   unfolding machineByte
   byte-is w h = dite (ℕ-discrete w (hub up))
       (λ e. let a = says-map (split-choke .0) (split-choke .1) (says-split (hub up)) in
-      rw (eq-eqb w (hub up) e) (by-cases (split up t w)
+      rw (eq-eqb w (hub up) e) (by-cases (split (hub up) up (t .group) w)
       (λ f. rw f (two e (rw e (a .gives (rw e at f)))))
       (λ f. let q : ¬ Chokes w = rw e (refuted a (rw e at f)) in rw (f, lone-never w h q) (nought q))))
       (λ o. let a = says-map (stuck-choke w h o .0) (stuck-choke w h o .1) (says-stuck w) in
-      rw (ne-eqb w (hub up) o) (by-cases (stuck up t w)
+      rw (ne-eqb w (hub up) o) (by-cases (stuck (hub up) up (t .group) (t .mark) w)
       (λ f. rw f (one o (a .gives f)))
       (λ f. rw (f, lone-never w h (refuted a f)) (nought (refuted a f)))))
 
-  pub machine-bytes : (w : ℕ) → w < length up → (machineByte up t w ≢ 0) ↔ Chokes w
+  pub machine-bytes : (w : ℕ) → w < length up → (machineByte (hub up) up (t .group) (t .mark) w ≢ 0) ↔ Chokes w
   machine-bytes w h = go (byte-is w h)
     where
       go : {m : ℕ} → Byte w m → (m ≢ 0) ↔ Chokes w
@@ -122,7 +123,7 @@ module _ {up : List ℕ} {L : Relation} {t : Tables} (N : Network (treeOf up) L)
       go (two e c) = (λ _. c, λ _. omega arith)
       go (nought q) = (λ z. absurd (z refl), λ c. absurd (q c))
 
-  pub hub-byte : (w : ℕ) → w < length up → (machineByte up t w ≡ 2) ↔ ((w ≡ hub up) × Chokes w)
+  pub hub-byte : (w : ℕ) → w < length up → (machineByte (hub up) up (t .group) (t .mark) w ≡ 2) ↔ ((w ≡ hub up) × Chokes w)
   hub-byte w h = go (byte-is w h)
     where
       go : {m : ℕ} → Byte w m → (m ≡ 2) ↔ ((w ≡ hub up) × Chokes w)
@@ -130,7 +131,7 @@ module _ {up : List ℕ} {L : Relation} {t : Tables} (N : Network (treeOf up) L)
       go (two e c) = (λ _. (e, c), λ _. refl)
       go (nought q) = (λ e. absurd (omega arith), λ k. absurd (q (k .1)))
 
-  pub never-three : (w : ℕ) → w < length up → machineByte up t w ≤ 2
+  pub never-three : (w : ℕ) → w < length up → machineByte (hub up) up (t .group) (t .mark) w ≤ 2
   never-three w h = go (byte-is w h)
     where
       go : {m : ℕ} → Byte w m → m ≤ 2
@@ -138,8 +139,7 @@ module _ {up : List ℕ} {L : Relation} {t : Tables} (N : Network (treeOf up) L)
       go (two e c) = omega arith
       go (nought q) = omega arith
 
-  pub link-bytes : (v : ℕ) → v < length up → (linkByte up t v ≡ 1) ↔ ((v ≢ hub up) × ¬ Walk (CabledBut (treeOf up) L v) v (at up v))
-  unfolding linkByte
+  pub link-bytes : (v : ℕ) → v < length up → (linkByte (hub up) (t .mark) v ≡ 1) ↔ ((v ≢ hub up) × ¬ Walk (CabledBut (treeOf up) L v) v (at up v))
   link-bytes v h =
       let a = says-and (says-not (says-eq v (hub up))) (says-eq (at (t .mark) v) 0) in
       by-cases (not (eqb v (hub up)) && eqb (at (t .mark) v) 0)

@@ -14,7 +14,8 @@ use Rattle.plain.proofs.Says.{clash, Says, says-lt, says-eq, says-and, refuted,
 use Rattle.plain.proofs.Least.{Least, least-is, least-has}
 use Rattle.rings.specs.Tree.{Rooted}
 use Rattle.tables.specs.Verdict.{Fault, Sound, Refused}
-use Rattle.tables.specs.Tree.{climb, hub, Inside, Reaches, depthOf, treeVerdict, treeOf}
+use Rattle.tables.specs.Tree.{climb, hub, Inside, Reaches, depthOf, treeVerdict}
+use Rattle.tables.specs.AsTree.{treeOf}
 use Rattle.tables.specs.Demand1.{SoundTree, TreesExact}
 use Rattle.tables.proofs.Verdicts.{all-sound, sound-all, checks-one, least-avoids, unless-avoids, later, unless-sound, none-refused, refuse-none, refused-at}
 use Rattle.tables.proofs.Climb.{arrives, reaches-soon, soon-reaches}

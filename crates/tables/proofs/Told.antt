@@ -19,7 +19,8 @@ use Rattle.rings.specs.Network.{Network}
 use Rattle.rings.specs.Ring.{Rings, Carries}
 use Rattle.rings.specs.Tree.{Tree}
 use Rattle.tables.specs.Tables.{Tables, fresh}
-use Rattle.tables.specs.Tree.{depthOf, treeOf}
+use Rattle.tables.specs.Tree.{depthOf}
+use Rattle.tables.specs.AsTree.{treeOf}
 
 -- the marks say what is ringed and what is carried
 pub record Marked (up : List ℕ) (L : Relation) (mark : List ℕ) : Type 0 where

@@ -16,7 +16,8 @@ use Rattle.rings.proofs.Under.{uplinked, rest, rise, no-return, one-child}
 use Rattle.rings.specs.Ring.{Escape}
 use Rattle.rings.specs.Tree.{Uplink, Under}
 use Rattle.tables.specs.Tables.{Tables}
-use Rattle.tables.specs.Tree.{hub, depthOf, treeOf}
+use Rattle.tables.specs.Tree.{hub, depthOf}
+use Rattle.tables.specs.AsTree.{treeOf}
 use Rattle.tables.proofs.Kept.{Kept}
 use Rattle.tables.specs.Demand1.{SoundTree}
 use Rattle.tables.proofs.Sound.{rooted, depth-hub, depth-up}

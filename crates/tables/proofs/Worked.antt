@@ -7,11 +7,11 @@ use Rattle.tables.specs.Tree.{climb, hub, depthOf, sizeVerdict, treeVerd
 use Rattle.tables.specs.Tables.{fresh, tableSizes}
 use Rattle.tables.specs.Link.{over, first, meet, ring, due, below, joined, grouped, raised, linked}
 use Rattle.tables.specs.Batch.{pairs, lengthVerdict, endsVerdict, batchVerdict, after, rise}
-use Rattle.tables.specs.Rules.{depthRule, hubRule, markRule, groupRule, partnerRule, carriedRule, keeps, breaks, rulesVerdict}
-use Rattle.tables.specs.Report.{child, groupCarried, stuck, split, ends, lone, machineByte, linkByte, machineBytes, linkBytes}
+use Rattle.tables.specs.Rules.{depthRule, groupRule, carriedRule, keeps, breaks, rulesVerdict}
+use Rattle.tables.specs.Report.{child, stuck, split, ends, lone, machineByte, machineBytes, linkBytes}
 use Rattle.tables.specs.Outcome.{answer, startVerdict, addVerdict, reportVerdict, named, startOf, addOf, reportOf}
 use Rattle.tables.specs.Worked.{answered, expected, rows, Worked}
 
 pub worked : Worked
-unfolding least some count tabulate total checks refuseLeast climb hub depthOf sizeVerdict treeVerdict fresh tableSizes over first meet ring due below joined grouped raised linked pairs lengthVerdict endsVerdict batchVerdict after rise depthRule hubRule markRule groupRule partnerRule carriedRule keeps breaks rulesVerdict child groupCarried stuck split ends lone machineByte linkByte machineBytes linkBytes startVerdict addVerdict reportVerdict named answer startOf addOf reportOf answered expected rows
+unfolding least some count tabulate total checks refuseLeast climb hub depthOf sizeVerdict treeVerdict fresh tableSizes over first meet ring due below joined grouped raised linked pairs lengthVerdict endsVerdict batchVerdict after rise depthRule groupRule carriedRule keeps breaks rulesVerdict child stuck split ends lone machineByte machineBytes linkBytes startVerdict addVerdict reportVerdict named answer startOf addOf reportOf answered expected rows
 worked = refl

@@ -11,27 +11,42 @@ use Rattle.graph.specs.Cable.{Cables, Linked}
 use Rattle.tables.specs.Verdict.{Sound, checks}
 use Rattle.tables.specs.Tree.{hub, treeVerdict}
 use Rattle.tables.specs.Tables.{Tables, tableSizes}
+use Rattle.tables.specs.Links.{Stands, tablesWith, SiteOf}
 use Rattle.tables.specs.History.{History, Lived, links, tables}
 use Rattle.tables.specs.Rules.{rulesVerdict}
-use Rattle.tables.specs.Report.{machineByte}
-use Rattle.tables.specs.Outcome.{Answer, Bytes, reportOf}
+use Rattle.tables.specs.Report.{machineBytes}
+use Rattle.tables.specs.Outcome.{Answer, Bytes, named, reportOf}
 use Rattle.tables.specs.Cables.{cables, ChokeMachine, ChokeUplink}
 
--- the report names exactly the chokes; a choke hub's byte is 2
-pub record Reported (up : List ℕ) (h : History) (r : Answer Bytes) : Type 0 where
+-- the report names exactly the chokes of the site with these links, and counts its machines; a choke hub's byte is 2
+pub record Reported (up : List ℕ) (links : Cables) (r : Answer Bytes) : Type 0 where
   pub done : r .code ≡ 0
-  pub machines : (w : ℕ) → w < length up → (at (r .lent .machines) w ≢ 0) ↔ ChokeMachine up (links h) w
-  pub hub-byte : (w : ℕ) → w < length up → (at (r .lent .machines) w ≡ 2) ↔ ((w ≡ hub up) × ChokeMachine up (links h) w)
-  pub uplinks : (v : ℕ) → v < length up → (at (r .lent .links) v ≡ 1) ↔ ChokeUplink up (links h) v
+  pub machines : (w : ℕ) → w < length up → (at (r .lent .machines) w ≢ 0) ↔ ChokeMachine up links w
+  pub hub-byte : (w : ℕ) → w < length up → (at (r .lent .machines) w ≡ 2) ↔ ((w ≡ hub up) × ChokeMachine up links w)
+  pub uplinks : (v : ℕ) → v < length up → (at (r .lent .links) v ≡ 1) ↔ ChokeUplink up links v
+  pub counted : r .value ≡ named (r .lent .machines)
 
 -- cross links are never chokes: taking one out leaves its ends joined
-abbrev pub CrossSpare : List ℕ → History → Type 0
-CrossSpare up h = (xs ys : Cables) (a b : ℕ) → links h ≡ xs ++ ((a, b) ∷ ys) → Walk (Linked (cables up (xs ++ ys))) a b
+abbrev pub CrossSpare : List ℕ → Cables → Type 0
+CrossSpare up links = (xs ys : Cables) (a b : ℕ) → links ≡ xs ++ ((a, b) ∷ ys) → Walk (Linked (cables up (xs ++ ys))) a b
+
+-- both, of the site with these links and these tables
+pub record ChokesNamed (up : List ℕ) (links : Cables) (t : Tables) : Type 0 where
+  pub reports : (o : Bytes) → length (o .machines) ≡ length up → length (o .links) ≡ length up → Reported up links (reportOf up t o)
+  pub cross-links : CrossSpare up links
+
+-- r can be relied on: t are the tables of some links that stand, and r names exactly the chokes of the site with just these links, whichever they are
+pub record Relied (up : List ℕ) (t : Tables) (r : Answer Bytes) : Type 0 where
+  pub site : SiteOf up t
+  pub reported : (s : SiteOf up t) → Reported up (s .links) r
 
 pub record Demand2 : Type 0 where
-  pub reports : (up : List ℕ) (h : History) → Lived up h → (o : Bytes) → length (o .machines) ≡ length up → length (o .links) ≡ length up
-      → Reported up h (reportOf up (tables up h) o)
-  pub cross-links : (up : List ℕ) (h : History) → Lived up h → CrossSpare up h
+  -- after any run of batches
+  pub after-batches : (up : List ℕ) (h : History) → Lived up h → ChokesNamed up (links h) (tables up h)
+  -- with any links that stand, however they came
+  pub with-links : (up : List ℕ) (l : Cables) → Stands up l → ChokesNamed up l (tablesWith up l)
+  -- with any tables at all, where the answer is 0
+  pub code-zero : (up : List ℕ) (t : Tables) (o : Bytes) → reportOf up t o .code ≡ 0 → Relied up t (reportOf up t o)
   -- reason 3 never happens on tables that meet the rules
   pub never-three : (up : List ℕ) (t : Tables) → treeVerdict up ≡ Sound → checks (tableSizes up t) ≡ Sound → rulesVerdict up t ≡ Sound
-      → (w : ℕ) → w < length up → machineByte up t w ≤ 2
+      → (w : ℕ) → w < length up → at (machineBytes up t) w ≤ 2

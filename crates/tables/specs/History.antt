@@ -9,6 +9,7 @@ use Rattle.tables.specs.Verdict.{Sound}
 use Rattle.tables.specs.Tree.{sizeVerdict, treeVerdict}
 use Rattle.tables.specs.Tables.{Tables, fresh}
 use Rattle.tables.specs.Batch.{pairs, batchVerdict, after}
+use Rattle.tables.specs.Links.{Stands, tablesWith}
 
 abbrev pub History : Type 0
 History = List (List ℕ)
@@ -40,3 +41,9 @@ pub record Lived (up : List ℕ) (h : History) : Type 0 where
   pub size : sizeVerdict (length up) ≡ Sound
   pub tree : treeVerdict up ≡ Sound
   pub batches : Accepted (length up) h
+
+-- only the links matter: those of a history stand, its tables are theirs, and links that stand are some history's
+pub record OnlyLinks : Type 0 where
+  pub stand : (up : List ℕ) (h : History) → Lived up h → Stands up (links h)
+  pub leave : (up : List ℕ) (h : History) → tables up h ≡ tablesWith up (links h)
+  pub lived : (up : List ℕ) (l : Cables) → Stands up l → (h : History) × Lived up h × (links h ≡ l)

@@ -10,8 +10,11 @@ use Rattle.graph.specs.Cable.{Cables, Linked}
 use Rattle.rings.specs.Ring.{Rings, Carries}
 use Rattle.rings.specs.Group.{SameGroup}
 use Rattle.tables.specs.Verdict.{Sound}
-use Rattle.tables.specs.Tree.{treeVerdict, treeOf}
+use Rattle.tables.specs.Tree.{treeVerdict}
+use Rattle.tables.specs.AsTree.{treeOf}
+use Rattle.tables.specs.Tables.{Tables}
 use Rattle.tables.specs.Link.{over, meet, ring, due}
+use Rattle.tables.specs.Links.{Stands, tablesWith}
 use Rattle.tables.specs.History.{History, Lived, links, tables}
 
 -- x is on the ring and not w exactly where it is on one of the two lines and not on the other
@@ -25,22 +28,27 @@ unfoldable pub greatest : List ℕ → Cables → ℕ → ℕ
 greatest up [] x = 0
 greatest up (p ∷ l) x = max (due up (p .0) (p .1) x) (greatest up l x)
 
--- what the tables tell after a history
-pub record Tells (up : List ℕ) (h : History) : Type 0 where
+-- what tables tell of the links that leave them
+pub record Tells (up : List ℕ) (links : Cables) (t : Tables) : Type 0 where
   -- marks are the greatest that one link asks, and say what is ringed and what is carried
-  pub marks : (x : ℕ) → x < length up → at (tables up h .mark) x ≡ greatest up (links h) x
-  pub ringed : (x : ℕ) → x < length up → (1 ≤ at (tables up h .mark) x) ↔ Rings (treeOf up) (Linked (links h)) x
-  pub carried : (x : ℕ) → x < length up → (at (tables up h .mark) x ≡ 2) ↔ Carries (treeOf up) (Linked (links h)) x
+  pub marks : (x : ℕ) → x < length up → at (t .mark) x ≡ greatest up links x
+  pub ringed : (x : ℕ) → x < length up → (1 ≤ at (t .mark) x) ↔ Rings (treeOf up) (Linked links) x
+  pub carried : (x : ℕ) → x < length up → (at (t .mark) x ≡ 2) ↔ Carries (treeOf up) (Linked links) x
   -- groups are the classes of the joins, named by their least member
   pub grouped : (x y : ℕ) → x < length up → y < length up
-      → (at (tables up h .group) x ≡ at (tables up h .group) y) ↔ SameGroup (treeOf up) (Linked (links h)) (at up x) x y
-  pub member : (x : ℕ) → x < length up → at (tables up h .group) (at (tables up h .group) x) ≡ at (tables up h .group) x
-  pub least : (x y : ℕ) → x < length up → y < length up → at (tables up h .group) x ≡ at (tables up h .group) y → at (tables up h .group) x ≤ y
+      → (at (t .group) x ≡ at (t .group) y) ↔ SameGroup (treeOf up) (Linked links) (at up x) x y
+  pub member : (x : ℕ) → x < length up → at (t .group) (at (t .group) x) ≡ at (t .group) x
+  pub least : (x y : ℕ) → x < length up → y < length up → at (t .group) x ≡ at (t .group) y → at (t .group) x ≤ y
 
-abbrev pub TablesTell : Type 0
-TablesTell = (up : List ℕ) (h : History) → Lived up h → Tells up h
+pub record TablesTell : Type 0 where
+  pub after-batches : (up : List ℕ) (h : History) → Lived up h → Tells up (links h) (tables up h)
+  pub with-links : (up : List ℕ) (l : Cables) → Stands up l → Tells up l (tablesWith up l)
 
--- order, batches, repeats and ends swapped do not matter
-abbrev pub OrderFree : Type 0
-OrderFree = (up : List ℕ) (h i : History) → Lived up h → Lived up i
-    → ((a b : ℕ) → Linked (links h) a b ↔ Linked (links i) a b) → tables up h ≡ tables up i
+-- the same links, whatever their order, repeats and ends swapped
+abbrev pub SameLinks : Cables → Cables → Type 0
+SameLinks l k = (a b : ℕ) → Linked l a b ↔ Linked k a b
+
+-- leave the same tables, whatever the batches
+pub record OrderFree : Type 0 where
+  pub after-batches : (up : List ℕ) (h i : History) → Lived up h → Lived up i → SameLinks (links h) (links i) → tables up h ≡ tables up i
+  pub with-links : (up : List ℕ) (l k : Cables) → Stands up l → Stands up k → SameLinks l k → tablesWith up l ≡ tablesWith up k

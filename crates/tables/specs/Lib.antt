@@ -3,12 +3,14 @@ pub mod Tree
 pub mod Tables
 pub mod Link
 pub mod Batch
+pub mod Links
 pub mod History
 pub mod Rules
 pub mod Report
 pub mod Outcome
 pub mod Lent
 pub mod Cables
+pub mod AsTree
 pub mod Laws
 pub mod Calls
 pub mod Demand1

@@ -1,4 +1,4 @@
--- What the report says: a byte for each machine, and one for each uplink.
+-- What the report says: a byte for each machine, and one for each uplink. Each test takes what it reads; h is the hub.
 use mathlib.Core.Bool.{Bool, cond, _&&_, _||_, not}
 use mathlib.Core.List.{List}
 use Prim.Native.Nat.{ℕ}
@@ -10,43 +10,55 @@ use Rattle.tables.specs.Tree.{hub}
 use Rattle.tables.specs.Tables.{Tables}
 
 -- c is a child of w; the hub is no child
-unfoldable pub child : List ℕ → ℕ → ℕ → Bool
-child up w c = not (eqb c (hub up)) && eqb (at up c) w
+unfoldable pub child : ℕ → List ℕ → ℕ → ℕ → Bool
+child h up w c = not (eqb c h) && eqb (at up c) w
 
--- the group of c has a carried member
-unfoldable pub groupCarried : List ℕ → Tables → ℕ → Bool
-groupCarried up t c = some (length up) (λ m. eqb (at (t .group) m) (at (t .group) c) && eqb (at (t .mark) m) 2)
+-- m is a carried member of group g
+abbrev pub carriedMember : List ℕ → List ℕ → ℕ → ℕ → Bool
+carriedMember group mark g m = eqb (at group m) g && eqb (at mark m) 2
 
--- 1: some child's group has no carried member
-unfoldable pub stuck : List ℕ → Tables → ℕ → Bool
-stuck up t w = some (length up) (λ c. child up w c && not (groupCarried up t c))
+-- c is a child of w whose group has no carried member
+abbrev pub stuckChild : ℕ → List ℕ → List ℕ → List ℕ → ℕ → ℕ → Bool
+stuckChild h up group mark w c = child h up w c && not (some (length up) (carriedMember group mark (at group c)))
 
--- 2: the children are in two or more groups
-unfoldable pub split : List ℕ → Tables → ℕ → Bool
-split up t w = some (length up) (λ c. some (length up) (λ d. child up w c && (child up w d && not (eqb (at (t .group) c) (at (t .group) d)))))
+-- 1: some child is
+unfoldable pub stuck : ℕ → List ℕ → List ℕ → List ℕ → ℕ → Bool
+stuck h up group mark w = some (length up) (stuckChild h up group mark w)
+
+-- c and d are children of w in two groups
+abbrev pub inTwo : ℕ → List ℕ → List ℕ → ℕ → ℕ → ℕ → Bool
+inTwo h up group w c d = child h up w c && (child h up w d && not (eqb (at group c) (at group d)))
+
+-- 2: some are: the children are in two or more groups
+unfoldable pub split : ℕ → List ℕ → List ℕ → ℕ → Bool
+split h up group w = some (length up) (λ c. some (length up) (inTwo h up group w c))
 
 -- the uplink of v ends at w: it is w's own or a child's
-unfoldable pub ends : List ℕ → ℕ → ℕ → Bool
-ends up w v = not (eqb v (hub up)) && (eqb v w || eqb (at up v) w)
+unfoldable pub ends : ℕ → List ℕ → ℕ → ℕ → Bool
+ends h up w v = not (eqb v h) && (eqb v w || eqb (at up v) w)
+
+-- and is lone
+abbrev pub loneEnd : ℕ → List ℕ → List ℕ → ℕ → ℕ → Bool
+loneEnd h up mark w v = ends h up w v && eqb (at mark v) 0
 
 -- 3: w ends a lone uplink and two or more uplinks end at w
-unfoldable pub lone : List ℕ → Tables → ℕ → Bool
-lone up t w = some (length up) (λ v. ends up w v && eqb (at (t .mark) v) 0) && leb 2 (count (length up) (ends up w))
+unfoldable pub lone : ℕ → List ℕ → List ℕ → ℕ → Bool
+lone h up mark w = some (length up) (loneEnd h up mark w) && leb 2 (count (length up) (ends h up w))
 
 -- the machine byte of w: the first that applies
-unfoldable pub machineByte : List ℕ → Tables → ℕ → ℕ
-machineByte up t w =
-    cond (not (eqb w (hub up)) && stuck up t w) 1
-    (cond (eqb w (hub up) && split up t w) 2
-    (cond (lone up t w) 3 0))
+unfoldable pub machineByte : ℕ → List ℕ → List ℕ → List ℕ → ℕ → ℕ
+machineByte h up group mark w =
+    cond (not (eqb w h) && stuck h up group mark w) 1
+    (cond (eqb w h && split h up group w) 2
+    (cond (lone h up mark w) 3 0))
 
 -- the link byte of v: 1 if v is not the hub and its mark is 0
-unfoldable pub linkByte : List ℕ → Tables → ℕ → ℕ
-linkByte up t v = cond (not (eqb v (hub up)) && eqb (at (t .mark) v) 0) 1 0
+abbrev pub linkByte : ℕ → List ℕ → ℕ → ℕ
+linkByte h mark v = cond (not (eqb v h) && eqb (at mark v) 0) 1 0
 
 -- all of them, in number order
 unfoldable pub machineBytes : List ℕ → Tables → List ℕ
-machineBytes up t = tabulate (length up) (machineByte up t)
+machineBytes up t = tabulate (length up) (machineByte (hub up) up (t .group) (t .mark))
 
 unfoldable pub linkBytes : List ℕ → Tables → List ℕ
-linkBytes up t = tabulate (length up) (linkByte up t)
+linkBytes up t = tabulate (length up) (linkByte (hub up) (t .mark))

@@ -1,4 +1,4 @@
--- The rules behind code 6, each charged to machine v, and the least machine that breaks one.
+-- The rules behind code 6, each charged to machine v, and the least machine that breaks one. Each takes what it reads; h is the hub.
 use mathlib.Core.Bool.{Bool, cond, _&&_, _||_, not}
 use mathlib.Core.List.{List}
 use Prim.Native.Nat.{ℕ, suc}
@@ -10,41 +10,42 @@ use Rattle.tables.specs.Tree.{hub}
 use Rattle.tables.specs.Tables.{Tables}
 
 -- depth is 0 at the hub, else one more than that of up[v]
-unfoldable pub depthRule : List ℕ → Tables → ℕ → Bool
-depthRule up t v = eqb (at (t .depth) v) (cond (eqb v (hub up)) 0 (suc (at (t .depth) (at up v))))
+unfoldable pub depthRule : ℕ → List ℕ → List ℕ → ℕ → Bool
+depthRule h up depth v = eqb (at depth v) (cond (eqb v h) 0 (suc (at depth (at up v))))
 
 -- the hub has mark 0 and its own group
-unfoldable pub hubRule : List ℕ → Tables → ℕ → Bool
-hubRule up t v = not (eqb v (hub up)) || (eqb (at (t .mark) v) 0 && eqb (at (t .group) v) v)
+abbrev pub hubRule : ℕ → List ℕ → List ℕ → ℕ → Bool
+hubRule h group mark v = not (eqb v h) || (eqb (at mark v) 0 && eqb (at group v) v)
 
 -- a mark is at most 2
-unfoldable pub markRule : Tables → ℕ → Bool
-markRule t v = leb (at (t .mark) v) 2
+abbrev pub markRule : List ℕ → ℕ → Bool
+markRule mark v = leb (at mark v) 2
 
 -- for others, with g = group[v]: g is below n, at most v, not the hub, has the same up and is its own group
-unfoldable pub groupRule : List ℕ → Tables → ℕ → Bool
-groupRule up t v =
-    let g = at (t .group) v in
-    eqb v (hub up) || (ltb g (length up) && (leb g v && (not (eqb g (hub up)) && (eqb (at up g) (at up v) && eqb (at (t .group) g) g))))
+unfoldable pub groupRule : ℕ → List ℕ → List ℕ → ℕ → Bool
+groupRule h up group v =
+    let g = at group v in
+    eqb v h || (ltb g (length up) && (leb g v && (not (eqb g h) && (eqb (at up g) (at up v) && eqb (at group g) g))))
 
 -- if g is not v, both marks are at least 1
-unfoldable pub partnerRule : List ℕ → Tables → ℕ → Bool
-partnerRule up t v =
-    let g = at (t .group) v in
-    eqb v (hub up) || (eqb g v || (leb 1 (at (t .mark) g) && leb 1 (at (t .mark) v)))
+abbrev pub partnerRule : ℕ → List ℕ → List ℕ → ℕ → Bool
+partnerRule h group mark v =
+    let g = at group v in
+    eqb v h || (eqb g v || (leb 1 (at mark g) && leb 1 (at mark v)))
 
 -- if mark[v] is 2, up[v] is not the hub and its mark is at least 1
-unfoldable pub carriedRule : List ℕ → Tables → ℕ → Bool
-carriedRule up t v = not (eqb (at (t .mark) v) 2) || (not (eqb (at up v) (hub up)) && leb 1 (at (t .mark) (at up v)))
+unfoldable pub carriedRule : ℕ → List ℕ → List ℕ → ℕ → Bool
+carriedRule h up mark v = not (eqb (at mark v) 2) || (not (eqb (at up v) h) && leb 1 (at mark (at up v)))
 
 -- v keeps every rule
-unfoldable pub keeps : List ℕ → Tables → ℕ → Bool
-keeps up t v =
-    depthRule up t v && (hubRule up t v && (markRule t v && (groupRule up t v && (partnerRule up t v && carriedRule up t v))))
+unfoldable pub keeps : ℕ → List ℕ → Tables → ℕ → Bool
+keeps h up t v =
+    depthRule h up (t .depth) v && (hubRule h (t .group) (t .mark) v && (markRule (t .mark) v && (groupRule h up (t .group) v
+    && (partnerRule h (t .group) (t .mark) v && carriedRule h up (t .mark) v))))
 
 -- v breaks one
 unfoldable pub breaks : List ℕ → Tables → ℕ → Bool
-breaks up t v = not (keeps up t v)
+breaks up t v = not (keeps (hub up) up t v)
 
 -- code 6: no history leaves these tables (that it is given just then is demand 1)
 unfoldable pub rulesVerdict : List ℕ → Tables → Verdict

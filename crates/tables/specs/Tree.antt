@@ -7,7 +7,6 @@ use lib.ListN.{length}
 use lib.Dec.{leb, ltb, eqb}
 use Rattle.plain.specs.Search.{least}
 use Rattle.plain.specs.Table.{at}
-use Rattle.rings.specs.Tree.{Tree}
 use Rattle.tables.specs.Verdict.{Fault, Verdict, checks, unless, refuseLeast}
 
 -- a site has at most so many machines
@@ -47,7 +46,3 @@ treeVerdict up =
     ∷ refuseLeast Fault.Hubs (length up) (λ v. ltb (hub up) v && eqb (at up v) v)
     ∷ refuseLeast Fault.Stray (length up) (λ v. leb (length up) (depthOf up v))
     ∷ [])
-
--- the tree, as the theory of rings has it
-abbrev pub treeOf : List ℕ → Tree
-treeOf up = record { size = length up; hub = hub up; up = λ v. at up v }

@@ -2,17 +2,16 @@
 use borrow.Author.Needs.{needs}
 use borrow.Author.Tests.{eq-eqb, ne-eqb}
 use Rattle.tables.specs.Rules.{carriedRule}
-use Rattle.checks.proofs.Keeping.{is-hub, not-hub}
 use Rattle.checks.proofs.rules.carried_rule.Statement.{statement}
 use Rattle.checks.proofs.rules.carried_rule.Tie as tie
 
 returns : tie.Need-returns
 unfolding carriedRule
-returns c = search (eq-eqb, ne-eqb, not-hub, ← c .before .before .before .before .before .at .ensures, ← c .ringed .ensures)
+returns c = search (eq-eqb, ne-eqb, ← c .before .before .before .before .before .at .ensures, ← c .ringed .ensures)
 
 returns-2 : tie.Need-returns-2
 unfolding carriedRule
-returns-2 c = search (eq-eqb, is-hub, ← c .before .before .before .at .ensures)
+returns-2 c = search (eq-eqb, ← c .before .before .before .at .ensures)
 
 returns-3 : tie.Need-returns-3
 unfolding carriedRule

@@ -4,7 +4,6 @@ use native.Mathlib.Omega.{arith}
 use borrow.Author.Needs.{needs}
 use borrow.Author.Tests.{eq-eqb, ne-eqb}
 use Rattle.tables.specs.Rules.{depthRule}
-use Rattle.checks.proofs.Keeping.{is-hub, not-hub}
 use Rattle.checks.proofs.rules.depth_rule.Statement.{statement}
 use Rattle.checks.proofs.rules.depth_rule.Tie as tie
 
@@ -13,12 +12,12 @@ add-result c = omega (arith, c .before .before .before .before .shared-slice-kno
 
 returns : tie.Need-returns
 unfolding depthRule
-returns c = search (eq-eqb, is-hub, ← c .at .ensures)
+returns c = search (eq-eqb, ← c .at .ensures)
 
 returns-2 : tie.Need-returns-2
 unfolding depthRule
-returns-2 c = let top = c .before .before .before .before .before .before .pre .top in
-    rw (ne-eqb _ _ (not-hub top (c .before .before .before .if1 .left)), ← c .before .before .at2 .ensures, ← c .before .at3 .ensures, ← c .at4 .ensures, add-one)
+returns-2 c =
+    rw (ne-eqb _ _ (c .before .before .before .if1 .left), ← c .before .before .at2 .ensures, ← c .before .at3 .ensures, ← c .at4 .ensures, add-one)
 
 pub depth-rule-spec : {M : Type 1} → statement M
 depth-rule-spec =

@@ -2,13 +2,13 @@
 use borrow.Author.Needs.{needs}
 use borrow.Author.Tests.{eq-eqb}
 use Rattle.tables.specs.Rules.{groupRule}
-use Rattle.checks.proofs.Keeping.{is-hub, name-over, name-hub, name-away, name-own}
+use Rattle.checks.proofs.Keeping.{name-over, name-hub, name-away, name-own}
 use Rattle.checks.proofs.rules.group_rule.Statement.{statement}
 use Rattle.checks.proofs.rules.group_rule.Tie as tie
 
 returns : tie.Need-returns
 unfolding groupRule
-returns c = search (eq-eqb, is-hub)
+returns c = search eq-eqb
 
 pub group-rule-spec : {M : Type 1} → statement M
 group-rule-spec =

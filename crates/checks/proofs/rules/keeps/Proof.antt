@@ -1,33 +1,33 @@
 -- `rules::keeps`: the six rules in turn, up to the first that is broken.
 use borrow.Author.Needs.{needs}
-use Rattle.tables.specs.Rules.{keeps, depthRule, hubRule, markRule, groupRule, partnerRule, carriedRule}
-use Rattle.checks.proofs.Keeping.{beside, stop, on, by-hub, by-partner}
+use Rattle.tables.specs.Rules.{keeps}
+use Rattle.checks.proofs.Keeping.{beside, stop, on}
 use Rattle.checks.proofs.rules.keeps.Statement.{statement}
 use Rattle.checks.proofs.rules.keeps.Tie as tie
 
 returns : tie.Need-returns
-unfolding keeps depthRule hubRule markRule groupRule partnerRule carriedRule
+unfolding keeps
 returns c = search stop
 
 returns-2 : tie.Need-returns-2
-unfolding keeps depthRule hubRule markRule groupRule partnerRule carriedRule
-returns-2 c = search (stop, on, by-hub)
+unfolding keeps
+returns-2 c = search (stop, on)
 
 returns-3 : tie.Need-returns-3
-unfolding keeps depthRule hubRule markRule groupRule partnerRule carriedRule
-returns-3 c = search (stop, on, by-hub)
+unfolding keeps
+returns-3 c = search (stop, on)
 
 returns-4 : tie.Need-returns-4
-unfolding keeps depthRule hubRule markRule groupRule partnerRule carriedRule
-returns-4 c = search (stop, on, by-hub)
+unfolding keeps
+returns-4 c = search (stop, on)
 
 returns-5 : tie.Need-returns-5
-unfolding keeps depthRule hubRule markRule groupRule partnerRule carriedRule
-returns-5 c = search (stop, on, by-hub, by-partner) depth 7
+unfolding keeps
+returns-5 c = search (stop, on)
 
 returns-6 : tie.Need-returns-6
-unfolding keeps depthRule hubRule markRule groupRule partnerRule carriedRule
-returns-6 c = search (on, by-hub, by-partner) depth 7
+unfolding keeps
+returns-6 c = search on
 
 pub keeps-spec : {M : Type 1} → statement M
 keeps-spec =

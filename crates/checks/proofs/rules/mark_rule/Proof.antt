@@ -3,17 +3,11 @@ use native.Mathlib.Omega.{arith}
 use borrow.Author.Needs.{needs}
 use borrow.Author.Tests.{le-leb, lt-leb}
 use Rattle.plain.specs.Table.{at}
-use Rattle.tables.specs.Rules.{markRule}
 use Rattle.checks.proofs.rules.mark_rule.Statement.{statement}
 use Rattle.checks.proofs.rules.mark_rule.Tie as tie
 
 returns : tie.Need-returns
-unfolding markRule
 returns c = let a = c .before .before .args in rw (le-leb (at (a .mark .now) (a .v)) 2 (omega arith))
 
-returns-2 : tie.Need-returns-2
-unfolding markRule
-returns-2 c = search lt-leb
-
 pub mark-rule-spec : {M : Type 1} → statement M
-mark-rule-spec = tie.close (tie.spec (λ c. search needs) returns returns-2)
+mark-rule-spec = tie.close (tie.spec (λ c. search needs) returns (λ c. search lt-leb))

@@ -10,7 +10,7 @@ unfolding reportOf
 returns c = search refused
 
 fill-requires : tie.Need-fill-requires
-fill-requires c κs = report-ready _ _ _ _ (c .before .before .before .enum-told .given .1) _ _ (c .before .before .before .before .before .report .ensures) (c .before .before .hub .ensures)
+fill-requires c κs = report-ready _ _ _ _ (c .before .before .before .enum-told .given .1) _ _ (c .before .before .before .before .before .report .ensures)
 
 pub report-spec : {M : Type 1} → statement M
 report-spec =

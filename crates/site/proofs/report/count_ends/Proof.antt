@@ -9,7 +9,7 @@ use Rattle.site.proofs.report.count_ends.Statement.{statement}
 use Rattle.site.proofs.report.count_ends.Tie as tie
 
 abbrev Inv-loop : tie.InvT-loop
-Inv-loop up top w n₀ v₀ n v = Counted (length up) (ends up w) v n
+Inv-loop up top w n₀ v₀ n v = Counted (length up) (ends top up w) v n
 
 abbrev μ-loop : tie.MeasureT-loop
 μ-loop up top w n₀ v₀ n v = length up - v

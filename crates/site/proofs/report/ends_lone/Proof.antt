@@ -2,13 +2,13 @@
 use Prim.Native.Nat.{_-_}
 use lib.ListN.{length}
 use borrow.Author.Needs.{needs}
-use Rattle.site.specs.ReportFill.{loneEnd}
+use Rattle.tables.specs.Report.{loneEnd}
 use Rattle.checks.proofs.Searching.{Searched, start, tested, next, some-here, some-none}
 use Rattle.site.proofs.report.ends_lone.Statement.{statement}
 use Rattle.site.proofs.report.ends_lone.Tie as tie
 
 abbrev Inv-loop : tie.InvT-loop
-Inv-loop up mark top w v₀ v = Searched (length up) (loneEnd up mark w) v
+Inv-loop up mark top w v₀ v = Searched (length up) (loneEnd top up mark w) v
 
 abbrev μ-loop : tie.MeasureT-loop
 μ-loop up mark top w v₀ v = length up - v

@@ -4,12 +4,12 @@ use native.Mathlib.Omega.{arith}
 use lib.ListN.{length}
 use borrow.Author.Needs.{needs}
 use Rattle.plain.proofs.Fill.{Filling, fill-start, fill-next, fill-end}
-use Rattle.site.specs.ReportFill.{linkByteAt}
+use Rattle.tables.specs.Report.{linkByte}
 use Rattle.site.proofs.report.fill_links.Statement.{statement}
 use Rattle.site.proofs.report.fill_links.Tie as tie
 
 abbrev Inv-loop : tie.InvT-loop
-Inv-loop mark top links₀ v₀ links v = Filling links₀ links v (linkByteAt top mark)
+Inv-loop mark top links₀ v₀ links v = Filling links₀ links v (linkByte top mark)
 
 abbrev μ-loop : tie.MeasureT-loop
 μ-loop mark top links₀ v₀ links v = length mark - v

@@ -1,17 +1,15 @@
 -- `report::fill_machines`: the invariant: the bytes below w are those of the definition.
-use mathlib.Core.List.{[]}
 use Prim.Native.Nat.{_-_}
 use native.Mathlib.Omega.{arith}
 use lib.ListN.{length}
 use borrow.Author.Needs.{needs}
 use Rattle.plain.proofs.Fill.{Filling, fill-start, fill-next, fill-end}
-use Rattle.tables.specs.Report.{machineByte, machineBytes}
-use Rattle.tables.specs.Lent.{tablesOf}
+use Rattle.tables.specs.Report.{machineByte}
 use Rattle.site.proofs.report.fill_machines.Statement.{statement}
 use Rattle.site.proofs.report.fill_machines.Tie as tie
 
 abbrev Inv-loop : tie.InvT-loop
-Inv-loop up group mark top machines₀ w₀ machines w = Filling machines₀ machines w (machineByte up (tablesOf [] group mark))
+Inv-loop up group mark top machines₀ w₀ machines w = Filling machines₀ machines w (machineByte top up group mark)
 
 abbrev μ-loop : tie.MeasureT-loop
 μ-loop up group mark top machines₀ w₀ machines w = length up - w
@@ -20,7 +18,6 @@ loop-holds : tie.Need-loop-holds Inv-loop μ-loop
 loop-holds c = fill-start _ _
 
 returns : tie.Need-returns Inv-loop μ-loop
-unfolding machineBytes
 returns c = let p = c .before .before .before .before .before .before .pre in rw (p .1) at (fill-end (omega arith) (c .before .loop .inv))
 
 pub fill-machines-spec : {M : Type 1} → statement M

@@ -2,7 +2,7 @@
 use Prim.Native.Nat.{_-_}
 use lib.ListN.{length}
 use borrow.Author.Needs.{needs}
-use Rattle.site.specs.ReportFill.{carriedMember}
+use Rattle.tables.specs.Report.{carriedMember}
 use Rattle.checks.proofs.Searching.{Searched, start, tested, next, some-here, some-none}
 use Rattle.site.proofs.report.group_carried.Statement.{statement}
 use Rattle.site.proofs.report.group_carried.Tie as tie

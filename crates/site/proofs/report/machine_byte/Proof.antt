@@ -1,27 +1,25 @@
 -- `report::machine_byte`: the hub has only line 2, the others only line 1, before the last two lines.
 use borrow.Author.Needs.{needs}
 use borrow.Author.Tests.{eq-eqb, ne-eqb}
-use Rattle.tables.specs.Report.{machineByte, split, lone}
-use Rattle.checks.proofs.Keeping.{is-hub, not-hub}
+use Rattle.tables.specs.Report.{machineByte}
 use Rattle.site.proofs.report.machine_byte.Statement.{statement}
 use Rattle.site.proofs.report.machine_byte.Tie as tie
 
 returns : tie.Need-returns
-unfolding machineByte split lone
-returns c = search (eq-eqb, is-hub, ← c .before .split .ensures, c .if2 .taken)
+unfolding machineByte
+returns c = search (eq-eqb, ← c .before .split .ensures, c .if2 .taken)
 
 returns-2 : tie.Need-returns-2
-unfolding machineByte split lone
-returns-2 c = search (ne-eqb, not-hub, ← c .before .stuck .ensures, c .if3 .taken)
+unfolding machineByte
+returns-2 c = search (ne-eqb, ← c .before .stuck .ensures, c .if3 .taken)
 
 returns-3 : tie.Need-returns-3
-unfolding machineByte split lone
-returns-3 c = search (eq-eqb, is-hub, ← c .before .before .split .ensures, c .before .if2 .left)
+unfolding machineByte
+returns-3 c = search (eq-eqb, ← c .before .before .split .ensures, c .before .if2 .left)
 
 returns-4 : tie.Need-returns-4
-unfolding machineByte split lone
-returns-4 c = let top = c .before .before .before .before .before .before .before .pre .top in
-    rw (ne-eqb _ _ (not-hub top (c .before .before .before .if1 .left)), ← c .before .before .stuck .ensures, c .before .if3 .left) (c .lone-byte2 .ensures)
+unfolding machineByte
+returns-4 c = rw (ne-eqb _ _ (c .before .before .before .if1 .left), ← c .before .before .stuck .ensures, c .before .if3 .left) (c .lone-byte2 .ensures)
 
 pub machine-byte-spec : {M : Type 1} → statement M
 machine-byte-spec =

@@ -2,13 +2,13 @@
 use Prim.Native.Nat.{_-_}
 use lib.ListN.{length}
 use borrow.Author.Needs.{needs}
-use Rattle.site.specs.ReportFill.{inTwo}
+use Rattle.tables.specs.Report.{inTwo}
 use Rattle.checks.proofs.Searching.{Searched, start, tested, next, some-here, some-none}
 use Rattle.site.proofs.report.other_group.Statement.{statement}
 use Rattle.site.proofs.report.other_group.Tie as tie
 
 abbrev Inv-loop : tie.InvT-loop
-Inv-loop up group top w c d₀ d = Searched (length up) (inTwo up group w c) d
+Inv-loop up group top w c d₀ d = Searched (length up) (inTwo top up group w c) d
 
 abbrev μ-loop : tie.MeasureT-loop
 μ-loop up group top w c d₀ d = length up - d

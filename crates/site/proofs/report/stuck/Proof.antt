@@ -1,17 +1,14 @@
 -- `report::stuck`: a search; the invariant: no machine below c passes the test.
-use mathlib.Core.List.{[]}
 use Prim.Native.Nat.{_-_}
 use lib.ListN.{length}
 use borrow.Author.Needs.{needs}
-use Rattle.tables.specs.Report.{stuck}
-use Rattle.site.specs.ReportFill.{stuckChild}
-use Rattle.tables.specs.Lent.{tablesOf}
+use Rattle.tables.specs.Report.{stuckChild, stuck}
 use Rattle.checks.proofs.Searching.{Searched, start, tested, next, some-here, some-none}
 use Rattle.site.proofs.report.stuck.Statement.{statement}
 use Rattle.site.proofs.report.stuck.Tie as tie
 
 abbrev Inv-loop : tie.InvT-loop
-Inv-loop up group mark top w c₀ c = Searched (length up) (stuckChild up (tablesOf [] group mark) w) c
+Inv-loop up group mark top w c₀ c = Searched (length up) (stuckChild top up group mark w) c
 
 abbrev μ-loop : tie.MeasureT-loop
 μ-loop up group mark top w c₀ c = length up - c
