@@ -17,10 +17,10 @@ use Rattle.plain.proofs.Says.{by-cases}
 use Rattle.plain.proofs.Tabulate.{tabulated}
 use Rattle.tables.specs.declared.Verdict.the-variants.{Sound, Refused}
 use Rattle.tables.specs.declared.Fault.{Fault}
-use Rattle.tables.specs.Tree.{climb, hub, depthOf}
+use Rattle.tables.specs.Tree.{climb, hub, depthOf, reachVerdict}
 use Rattle.tables.proofs.Climb.{climb-add}
 use Rattle.tables.proofs.Verdicts.{refuse-at, refuse-none, not-both}
-use Rattle.checks.specs.TreeCheck.{reachVerdict, unknown, Known, Blank, Depth, Held, Climbing, Climbed, Stopped, Laying, Laid, Ready, Reached}
+use Rattle.checks.specs.TreeCheck.{unknown, Known, Blank, Depth, Held, Climbing, Climbed, Stopped, Laying, Laid, Climbable, Reached}
 use Rattle.checks.proofs.Depths.{hub-depth, depth-here, deep, uplink-depth, climb-depth}
 
 -- a depth is stored: what was known, or stands at the place, is known
@@ -99,7 +99,7 @@ pub record Reaching (up known : List ℕ) (v : ℕ) : Type 0 where
   pub held : Held up known
   pub done : (y : ℕ) → y < v → Known known y
 
-pub reach-start : {up known₀ known : List ℕ} {h : ℕ} → Ready up known₀ → Blank known₀ known → h ≡ hub up → Reaching up (set known h 0) 0
+pub reach-start : {up known₀ known : List ℕ} {h : ℕ} → Climbable up known₀ → Blank known₀ known → h ≡ hub up → Reaching up (set known h 0) 0
 reach-start {up} {known₀} {known} {h} g b e =
     let size : length known ≡ length up = b .size ∙ g .room .size in
     let inside : h < length known = omega (arith, g .hub-in) in
@@ -124,7 +124,7 @@ reach-next {known′ = known′} {v} h l r = record {
   done = below-more (Known known′) v (λ k b. l .kept k (r .done k b)) (l .there);
 }
 
-module _ {up known₀ known : List ℕ} {v : ℕ} (g : Ready up known₀) (r : Reaching up known v) where
+module _ {up known₀ known : List ℕ} {v : ℕ} (g : Climbable up known₀) (r : Reaching up known v) where
   -- below v none is a stray
   reached : (k : ℕ) → k < v → leb (length up) (depthOf up k) ≡ false
   reached k h =

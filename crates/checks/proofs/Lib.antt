@@ -2,6 +2,6 @@ pub mod Searching
 pub mod Depths
 pub mod DepthTable
 pub mod TreeVerdicts
-pub mod Batches
+pub mod LinkByLink
 pub mod Keeping
 pub mod Checking

@@ -16,9 +16,9 @@ use Rattle.plain.specs.Table.{at}
 use Rattle.tables.specs.Verdict.{checks, refuseLeast}
 use Rattle.tables.specs.declared.Fault.{Fault}
 use Rattle.tables.specs.declared.Verdict.the-variants.{the-data as Verdict, Sound, Refused}
-use Rattle.tables.specs.Tree.{hub, treeVerdict}
+use Rattle.tables.specs.Tree.{hub, entriesVerdict, hubsVerdict, reachVerdict, treeVerdict}
 use Rattle.tables.proofs.Verdicts.{none-refused, all-sound, unless-sound, not-both}
-use Rattle.checks.specs.TreeCheck.{entriesVerdict, hubsVerdict, reachVerdict, hubFrom, Room, Wide, Ready, Reached}
+use Rattle.checks.specs.TreeCheck.{hubFrom, DepthRoom, Climbable, Reached}
 use Rattle.checks.proofs.Checking.{told}
 use Rattle.checks.proofs.Searching.{Searched}
 
@@ -56,7 +56,7 @@ module _ (up : List ℕ) {h : ℕ} (e : h ≡ hub up) where
     one-hub l = rw (lt-ltb (hub up) (length up) (omega arith), ← behind, le-ltb r (length up) l) refl
 
 pub ready : {up known : List ℕ} {c d : Verdict} → c ≡ Sound → c ≡ entriesVerdict up → d ≡ Sound → d ≡ hubsVerdict up
-    → Room up known → Ready up known
+    → DepthRoom up known → Climbable up known
 ready {up} e q f p m = record {
   room = m;
   inside = λ v h. leb-false (length up) (at up v) (none-refused Fault.Entry (length up) (λ k. leb (length up) (at up k)) (told e q) v h);
@@ -68,16 +68,5 @@ pub refused : {v : Verdict} {up known : List ℕ} {r : Verdict} {why : Fault} {p
     → Reached v up known r
 refused e q s = record { verdict = q; size = s; depths = λ f. not-both e f }
 
-pub reached : {up known : List ℕ} {r : Verdict} → Reached (reachVerdict up) up known r → r ≡ treeVerdict up → Reached (treeVerdict up) up known r
+pub reached : {v w : Verdict} {up known : List ℕ} {r : Verdict} → Reached w up known r → r ≡ v → Reached v up known r
 reached k q = record { verdict = q; size = k .size; depths = k .depths }
-
--- the front of a table that has room for any tree, and the depths there
-module _ {up known : List ℕ} (w : Wide up known) where
-  pub front-size : length up ≡ length (take (length up) known)
-  front-size = sym (length-take-le (length up) known (omega (arith, w .few, w .size)))
-
-  pub front-room : Room up (take (length up) known)
-  front-room = record { few = w .few; size = sym front-size }
-
-pub in-front : {v : Verdict} {up known : List ℕ} {r : Verdict} (rest : List ℕ) → Reached v up known r → Reached v up (take (length up) (known ++ rest)) r
-in-front {up = up} {known} rest k = rw (take-at known rest (length up) (k .size)) k

@@ -1,3 +1,3 @@
-pub mod Checked
+pub mod Started
 pub mod TreeCheck
 pub mod RulesCheck

@@ -2,29 +2,14 @@
 -- These are the contracts of private functions: the public calls do not cite them, so nothing here has to be believed.
 use mathlib.Core.Path.{_≡_}
 use mathlib.Core.Bool.{_&&_}
-use mathlib.Core.List.{List, [], _∷_}
+use mathlib.Core.List.{List}
 use Prim.Native.Nat.{ℕ, _<_, _≤_}
 use lib.ListN.{length}
-use lib.Dec.{leb, ltb, eqb}
+use lib.Dec.{leb, eqb}
 use Rattle.plain.specs.Search.{least}
 use Rattle.plain.specs.Table.{at, tabulate}
-use Rattle.tables.specs.Verdict.{checks, unless, refuseLeast}
 use Rattle.tables.specs.declared.Verdict.the-variants.{the-data as Verdict, Sound}
-use Rattle.tables.specs.Tree.{mostMachines, climb, hub, Inside, depthOf, treeVerdict}
-use Rattle.tables.specs.declared.Fault.{Fault}
-
--- codes 3, 4 and 5 of treeVerdict, each by itself
-abbrev pub entriesVerdict : List ℕ → Verdict
-entriesVerdict up = refuseLeast Fault.Entry (length up) (λ v. leb (length up) (at up v))
-
-abbrev pub hubsVerdict : List ℕ → Verdict
-hubsVerdict up =
-    checks (unless (ltb (hub up) (length up)) Fault.Hubs (length up)
-    ∷ refuseLeast Fault.Hubs (length up) (λ v. ltb (hub up) v && eqb (at up v) v)
-    ∷ [])
-
-abbrev pub reachVerdict : List ℕ → Verdict
-reachVerdict up = refuseLeast Fault.Stray (length up) (λ v. leb (length up) (depthOf up v))
+use Rattle.tables.specs.Tree.{mostMachines, climb, hub, Inside, depthOf}
 
 -- the least machine, not below from, that names itself; n, if there is none
 abbrev pub hubFrom : List ℕ → ℕ → ℕ
@@ -87,18 +72,13 @@ pub record Laid (up known : List ℕ) (v : ℕ) (known′ : List ℕ) : Type 0 w
   pub there : Known known′ v
 
 -- what the tree check asks: room for the depths
-pub record Room (up known : List ℕ) : Type 0 where
+pub record DepthRoom (up known : List ℕ) : Type 0 where
   pub few : length up ≤ mostMachines
   pub size : length known ≡ length up
 
--- room for the depths of any tree
-pub record Wide (up known : List ℕ) : Type 0 where
-  pub few : length up ≤ mostMachines
-  pub size : length known ≡ mostMachines
-
 -- and its reach check: every entry a machine, and there is a hub
-pub record Ready (up known : List ℕ) : Type 0 where
-  pub room : Room up known
+pub record Climbable (up known : List ℕ) : Type 0 where
+  pub room : DepthRoom up known
   pub inside : Inside up
   pub hub-in : hub up < length up
 

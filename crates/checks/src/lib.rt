@@ -1,20 +1,30 @@
 // What is refused: the checks of each call, in the order of the codes. No function that other crates see asks anything of its caller.
 ghost use mathlib.Core.Path.{_≡_};
-ghost use lib.ListN.{length, take};
-ghost use Rattle.tables.specs.Tree.{treeVerdict};
-ghost use Rattle.tables.specs.Outcome.{addVerdict, reportVerdict};
-ghost use Rattle.tables.specs.Lent.{tablesOf, bytesOf};
-ghost use Rattle.checks.specs.Checked.{sizesVerdict, outputsVerdict, tablesVerdict, Lengths, Started};
-ghost use Rattle.checks.specs.TreeCheck.{Wide, Reached};
+ghost use Prim.Native.Nat.{_≤_};
+ghost use lib.ListN.{length};
+ghost use Rattle.tables.specs.Answer.{outcome};
+ghost use Rattle.tables.specs.Tree.{mostMachines, treeVerdict, aloneVerdict};
+ghost use Rattle.tables.specs.Tables.{tablesOf, Lengths};
+ghost use Rattle.tables.specs.Batch.{batchVerdict};
+ghost use Rattle.tables.specs.Rules.{tablesVerdict};
+ghost use Rattle.tables.specs.Report.{bytesOf};
+ghost use Rattle.tables.specs.Outcome.{startVerdict, addVerdict, reportVerdict};
+ghost use Rattle.checks.specs.Started.{started};
+ghost use Rattle.checks.specs.TreeCheck.{DepthRoom};
 
-mod batch;
+mod answers;
+mod batches;
+mod lengths;
 mod rules;
 mod table;
-mod tree;
+mod trees;
 
+pub use crate::answers::answer;
+pub use crate::answers::refusal;
+pub use crate::lengths::numbers;
+pub use crate::lengths::size;
 pub use crate::table::at;
-pub use crate::tree::hub;
-use tables::Fault;
+pub use crate::trees::hub;
 use tables::Verdict;
 
 // A site has at most so many machines.
@@ -23,96 +33,91 @@ pub const MACHINES: usize = 4096;
 // A batch has at most so many links.
 pub const LINKS: usize = 1024;
 
-// The number of machines, and the lengths of the three tables.
-fn sizes(n: usize, depth: usize, group: usize, mark: usize) -> Verdict
-    ensures { λ r. ⌜ r ≡ sizesVerdict n depth group mark ⌝ }
-{
-    if n == 0 {
-        return Verdict::Refused(Fault::Size, n);
-    }
-    if n > MACHINES {
-        return Verdict::Refused(Fault::Size, n);
-    }
-    if depth != n {
-        return Verdict::Refused(Fault::Slice, 1);
-    }
-    if group != n {
-        return Verdict::Refused(Fault::Slice, 2);
-    }
-    if mark != n {
-        return Verdict::Refused(Fault::Slice, 3);
-    }
-    Verdict::Sound
-}
-
-// The lengths of the report's two outputs.
-fn outputs(n: usize, machines: usize, links: usize) -> Verdict
-    ensures { λ r. ⌜ r ≡ outputsVerdict n machines links ⌝ }
-{
-    if machines != n {
-        return Verdict::Refused(Fault::Slice, 4);
-    }
-    if links != n {
-        return Verdict::Refused(Fault::Slice, 5);
-    }
-    Verdict::Sound
-}
-
-// The tree and the rules behind code 6, over tables of the right lengths. The depths that the tree check leaves stay in a local array.
-fn tables(up: &[u16], depth: &[u16], group: &[u16], mark: &[u8]) -> Verdict
-    requires { ⌜ Lengths (now up) (now depth) (now group) (now mark) ⌝ }
-    ensures { λ r. ⌜ r ≡ tablesVerdict (now (up .entry)) (tablesOf (now (depth .entry)) (now (group .entry)) (now (mark .entry))) ⌝ }
+// A tree of not too many machines. The depths that its check finds stay in a local array.
+fn shape(up: &[u16]) -> Verdict
+    requires { ⌜ length (now up) ≤ mostMachines ⌝ }
+    ensures { λ r. ⌜ r ≡ treeVerdict (now (up .entry)) ⌝ }
 {
     let n = up.len();
     let mut known = [0; MACHINES];
-    let shape = tree::check(up, &mut known[..n]);
-    let Verdict::Sound = shape else {
-        return shape;
+    trees::check(up, &mut known[..n])
+}
+
+// A tree by itself.
+pub fn tree(up: &[u16]) -> Verdict
+    ensures { λ r. ⌜ r ≡ aloneVerdict (now (up .entry)) ⌝ }
+{
+    let few = lengths::size(up.len());
+    let Verdict::Sound = few else {
+        return few;
     };
-    let top = tree::hub(up);
+    shape(up)
+}
+
+// A batch, over n machines.
+pub fn batch(n: usize, batch: &[u16]) -> Verdict
+    ensures { λ r. ⌜ r ≡ batchVerdict n (now (batch .entry)) ⌝ }
+{
+    let even = lengths::numbers(batch.len());
+    let Verdict::Sound = even else {
+        return even;
+    };
+    batches::ends(n, batch)
+}
+
+// The tree and the rules behind code 6, over tables of the right lengths.
+fn tables(up: &[u16], depth: &[u16], group: &[u16], mark: &[u8]) -> Verdict
+    requires { ⌜ Lengths (now up) (tablesOf (now depth) (now group) (now mark)) ⌝ }
+    ensures { λ r. ⌜ r ≡ tablesVerdict (now (up .entry)) (tablesOf (now (depth .entry)) (now (group .entry)) (now (mark .entry))) ⌝ }
+{
+    let grown = shape(up);
+    let Verdict::Sound = grown else {
+        return grown;
+    };
+    let top = trees::hub(up);
     rules::check(up, depth, group, mark, top)
 }
 
-// All checks of Start. Where all is well, the front of `known` has the depths.
-pub fn start(
-    up: &[u16],
-    depth: &[u16],
-    group: &[u16],
-    mark: &[u8],
-    known: &mut [u16; MACHINES],
-) -> Verdict
-    ensures { λ r. ⌜ Started (now (up .entry)) (tablesOf (now (depth .entry)) (now (group .entry)) (now (mark .entry))) (now (known .exit)) r ⌝ }
+// A tree whose depths go to `known` first, and to `depth` where all is well.
+fn grow(up: &[u16], known: &mut [u16], depth: &mut [u16]) -> Verdict
+    requires { ⌜ DepthRoom (now up) (now known) × (length (now depth) ≡ length (now up)) ⌝ }
+    ensures { λ r. ⌜ outcome r (now (depth .exit)) ≡ started (treeVerdict (now (up .entry))) (now (up .entry)) (now (depth .entry)) ⌝ }
 {
-    let n = up.len();
-    let lengths = sizes(n, depth.len(), group.len(), mark.len());
-    let Verdict::Sound = lengths else {
-        return lengths;
+    let grown = trees::check(up, known);
+    let Verdict::Sound = grown else {
+        return grown;
     };
-    grown(up, known)
+    table::copy(known, depth);
+    Verdict::Sound
 }
 
-// The tree check over the front of a table of any depths.
-fn grown(up: &[u16], known: &mut [u16]) -> Verdict
-    requires { ⌜ Wide (now up) (now known) ⌝ }
-    ensures { λ r. ⌜ Reached (treeVerdict (now (up .entry))) (now (up .entry)) (take (length (now (up .entry))) (now (known .exit))) r ⌝ }
+// All checks of Start. They find the depths, so where all is well `depth` has them; else it is as it came.
+pub fn start(up: &[u16], depth: &mut [u16], group: &[u16], mark: &[u8]) -> Verdict
+    ensures { λ r. ⌜ outcome r (now (depth .exit))
+        ≡ started (startVerdict (now (up .entry)) (tablesOf (now (depth .entry)) (now (group .entry)) (now (mark .entry)))) (now (up .entry)) (now (depth .entry)) ⌝ }
 {
     let n = up.len();
-    tree::check(up, &mut known[..n])
+    let sizes = lengths::sizes(n, depth.len(), group.len(), mark.len());
+    let Verdict::Sound = sizes else {
+        return sizes;
+    };
+    let mut known = [0; MACHINES];
+    grow(up, &mut known[..n], depth)
 }
 
 // All checks of Add.
-pub fn add(up: &[u16], depth: &[u16], group: &[u16], mark: &[u8], batch: &[u16]) -> Verdict
-    ensures { λ r. ⌜ r ≡ addVerdict (now (up .entry)) (now (batch .entry)) (tablesOf (now (depth .entry)) (now (group .entry)) (now (mark .entry))) ⌝ }
+pub fn add(up: &[u16], depth: &[u16], group: &[u16], mark: &[u8], links: &[u16]) -> Verdict
+    ensures { λ r. ⌜ r ≡ addVerdict (now (up .entry)) (now (links .entry)) (tablesOf (now (depth .entry)) (now (group .entry)) (now (mark .entry))) ⌝ }
 {
-    let lengths = sizes(up.len(), depth.len(), group.len(), mark.len());
-    let Verdict::Sound = lengths else {
-        return lengths;
+    let sizes = lengths::sizes(up.len(), depth.len(), group.len(), mark.len());
+    let Verdict::Sound = sizes else {
+        return sizes;
     };
     let kept = tables(up, depth, group, mark);
     let Verdict::Sound = kept else {
         return kept;
     };
-    batch::check(up.len(), batch)
+    batch(up.len(), links)
 }
 
 // All checks of Report.
@@ -126,13 +131,13 @@ pub fn report(
 ) -> Verdict
     ensures { λ r. ⌜ r ≡ reportVerdict (now (up .entry)) (tablesOf (now (depth .entry)) (now (group .entry)) (now (mark .entry))) (bytesOf (now (machines .entry)) (now (links .entry))) ⌝ }
 {
-    let lengths = sizes(up.len(), depth.len(), group.len(), mark.len());
-    let Verdict::Sound = lengths else {
-        return lengths;
+    let sizes = lengths::sizes(up.len(), depth.len(), group.len(), mark.len());
+    let Verdict::Sound = sizes else {
+        return sizes;
     };
-    let bytes = outputs(up.len(), machines.len(), links.len());
-    let Verdict::Sound = bytes else {
-        return bytes;
+    let outputs = lengths::outputs(up.len(), machines.len(), links.len());
+    let Verdict::Sound = outputs else {
+        return outputs;
     };
     tables(up, depth, group, mark)
 }

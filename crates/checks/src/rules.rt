@@ -8,7 +8,7 @@ ghost use lib.ListN.{length};
 ghost use lib.Dec.{leb};
 ghost use Rattle.tables.specs.Rules.{depthRule, hubRule, markRule, groupRule, partnerRule, carriedRule, rulesVerdict};
 ghost use Rattle.tables.specs.Rules;
-ghost use Rattle.tables.specs.Lent.{tablesOf};
+ghost use Rattle.tables.specs.Tables.{tablesOf};
 ghost use Rattle.checks.specs.RulesCheck.{Sized, Beside};
 
 // Whether a mark is at least 1.

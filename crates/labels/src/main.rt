@@ -45,14 +45,14 @@ fn end_answer() -> bool {
 // The next file of the stream, answered over lent room; false where the stream ends.
 fn answer_one(
     file: &mut [u8],
-    up: &mut [u16],
-    depth: &mut [u16],
-    group: &mut [u16],
-    mark: &mut [u8],
-    batch: &mut [u16],
-    machines: &mut [u8],
-    links: &mut [u8],
-    text: &mut [u8],
+    up: &mut [u16; Site::MACHINES],
+    depth: &mut [u16; Site::MACHINES],
+    group: &mut [u16; Site::MACHINES],
+    mark: &mut [u8; Site::MACHINES],
+    batch: &mut [u16; 2 * Site::LINKS],
+    machines: &mut [u8; Site::MACHINES],
+    links: &mut [u8; Site::MACHINES],
+    text: &mut [u8; sitefile::MOST_TEXT],
 ) -> bool {
     let n = read_next(file);
     if n > file.len() {
@@ -75,14 +75,14 @@ fn answer_one(
 // Every file of the stream.
 fn answer_all(
     file: &mut [u8],
-    up: &mut [u16],
-    depth: &mut [u16],
-    group: &mut [u16],
-    mark: &mut [u8],
-    batch: &mut [u16],
-    machines: &mut [u8],
-    links: &mut [u8],
-    text: &mut [u8],
+    up: &mut [u16; Site::MACHINES],
+    depth: &mut [u16; Site::MACHINES],
+    group: &mut [u16; Site::MACHINES],
+    mark: &mut [u8; Site::MACHINES],
+    batch: &mut [u16; 2 * Site::LINKS],
+    machines: &mut [u8; Site::MACHINES],
+    links: &mut [u8; Site::MACHINES],
+    text: &mut [u8; sitefile::MOST_TEXT],
 ) {
     let mut left = MOST_FILES;
     while 0 < left {

@@ -1,9 +1,12 @@
 // What a site file means, written to standard output: the library's own text for each report and each refusal. Nothing is worked out here.
 use libc::STDOUT_FILENO;
+use site::Site;
 use sitefile::Reader;
 use sitefile::Step;
 use sitefile::read;
 use sitefile::text;
+use tables::Answer;
+use tables::Fault;
 
 // Writes the first k bytes of the text, where it has as many.
 fn write_text(text: &[u8], k: usize) {
@@ -13,8 +16,8 @@ fn write_text(text: &[u8], k: usize) {
 }
 
 // The line of a refusal.
-fn print_refusal(code: u16, value: usize, text: &mut [u8]) {
-    let k = text::refusal_text(code, value, text);
+fn print_refusal(refusal: Answer, text: &mut [u8]) {
+    let k = text::refusal_text(refusal, text);
     write_text(text, k);
 }
 
@@ -36,17 +39,17 @@ fn print_report(n: usize, up: &[u16], machines: &[u8], links: &[u8], text: &mut 
 // One site file, record by record, over lent room. Each record takes a byte, so there are no more than the file has.
 pub fn print_file(
     file: &[u8],
-    up: &mut [u16],
-    depth: &mut [u16],
-    group: &mut [u16],
-    mark: &mut [u8],
-    batch: &mut [u16],
-    machines: &mut [u8],
-    links: &mut [u8],
-    text: &mut [u8],
+    up: &mut [u16; Site::MACHINES],
+    depth: &mut [u16; Site::MACHINES],
+    group: &mut [u16; Site::MACHINES],
+    mark: &mut [u8; Site::MACHINES],
+    batch: &mut [u16; 2 * Site::LINKS],
+    machines: &mut [u8; Site::MACHINES],
+    links: &mut [u8; Site::MACHINES],
+    text: &mut [u8; sitefile::MOST_TEXT],
 ) {
     if file.len() > sitefile::MOST_BYTES {
-        print_refusal(13, sitefile::MOST_BYTES, text);
+        print_refusal(checks::refusal(Fault::Long, sitefile::MOST_BYTES), text);
         return;
     }
     let mut reader = Reader {
@@ -67,8 +70,8 @@ pub fn print_file(
                 print_report(next.n, up, machines, links, text);
                 reader = next;
             }
-            Step::Refused(code, value) => {
-                print_refusal(code, value, text);
+            Step::Refused(refusal) => {
+                print_refusal(refusal, text);
                 return;
             }
             Step::End => {

@@ -16,7 +16,7 @@ use Rattle.tables.specs.Batch.{mostLinks, pairs, lengthVerdict, batchVerdict, a
 use Rattle.tables.proofs.Verdicts.{all-sound, unless-sound}
 use Rattle.tables.specs.Links.{Good}
 use Rattle.tables.proofs.Histories.{batch-good}
-use Rattle.site.specs.RingStep.{Linkable, Links, Ready, Applied}
+use Rattle.site.specs.RingStep.{Linkable, Links, Applicable, Applied}
 
 -- the tables after one link more
 after-more : (up : List ℕ) (l : List (ℕ × ℕ)) (i : ℕ) (t : Tables) → i < length l
@@ -65,7 +65,7 @@ pub record Applying (up depth group₀ mark₀ batch group mark : List ℕ) (ris
   pub sum : total mark ≡ total mark₀ + rise
   pub small : rise ≤ 4 * mostMachines * i
 
-module _ {up depth group₀ mark₀ batch : List ℕ} (r : Ready up depth group₀ mark₀ batch) where
+module _ {up depth group₀ mark₀ batch : List ℕ} (r : Applicable up depth group₀ mark₀ batch) where
   -- the batch has an even length, and at most 1,024 links
   even : (length batch % 2 ≡ 0) × (length batch ≤ 2 * mostLinks)
   unfolding batchVerdict lengthVerdict

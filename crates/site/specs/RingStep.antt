@@ -70,7 +70,7 @@ pub record Links (up group mark group′ mark′ : List ℕ) (a b rise : ℕ) : 
   pub small : rise ≤ 4 * length up
 
 -- a sound tree with right depths, tables of the right lengths, and the numbers of a batch that is accepted
-pub record Ready (up depth group mark numbers : List ℕ) : Type 0 where
+pub record Applicable (up depth group mark numbers : List ℕ) : Type 0 where
   pub few : length up ≤ mostMachines
   pub tree : SoundTree up
   pub depths : depth ≡ tabulate (length up) (depthOf up)

@@ -5,18 +5,6 @@ ghost use lib.ListN.{length, replicate};
 ghost use Rattle.plain.specs.Table.{tabulate};
 ghost use Rattle.tables.specs.Tree.{mostMachines};
 
-// `to` becomes `from`.
-pub fn copy(from: &[u16], to: &mut [u16])
-    requires { ⌜ length (now to) ≡ length (now from) ⌝ }
-    ensures { λ _. ⌜ now (to .exit) ≡ now (from .entry) ⌝ }
-{
-    let mut v = 0;
-    while v < from.len() {
-        to[v] = from[v];
-        v += 1;
-    }
-}
-
 // Each machine alone in its group.
 pub fn number(group: &mut [u16])
     requires { ⌜ length (now group) ≤ mostMachines ⌝ }

@@ -1,24 +1,19 @@
 // A site of machines over lent slices: Start, Add and Report.
 ghost use mathlib.Core.Path.{_≡_};
+ghost use Rattle.tables.specs.Answer.{outcome};
+ghost use Rattle.tables.specs.Tables.{tablesOf};
+ghost use Rattle.tables.specs.Report.{bytesOf};
 ghost use Rattle.tables.specs.Outcome.{startOf, addOf, reportOf};
-ghost use Rattle.tables.specs.Lent.{tablesOf, bytesOf, outcome};
 
 mod fill;
-mod refusal;
 mod report;
 mod ring;
 
-use crate::refusal::refusal;
+use tables::Answer;
 use tables::Verdict;
 
 // A site is the slices that its calls are lent; the type has the limits and the calls.
 pub struct Site {}
-
-// The answer of a call: its code, and the value that goes with it.
-pub struct Answer {
-    pub code: u16,
-    pub value: usize,
-}
 
 impl Site {
     // A site has at most so many machines.
@@ -27,21 +22,18 @@ impl Site {
     // A batch has at most so many links.
     pub const LINKS: usize = checks::LINKS;
 
-    // From a tree to fresh tables. The depths go to a local array first: nothing lent is touched before every check has passed.
+    // From a tree to fresh tables. Nothing lent is touched before every check has passed.
     pub fn start(up: &[u16], depth: &mut [u16], group: &mut [u16], mark: &mut [u8]) -> Answer
-        ensures { λ r. ⌜ outcome (r .code) (r .value) (tablesOf (now (depth .exit)) (now (group .exit)) (now (mark .exit)))
+        ensures { λ r. ⌜ outcome r (tablesOf (now (depth .exit)) (now (group .exit)) (now (mark .exit)))
             ≡ startOf (now (up .entry)) (tablesOf (now (depth .entry)) (now (group .entry)) (now (mark .entry))) ⌝ }
     {
-        let mut known = [0; Site::MACHINES];
-        let check = checks::start(up, depth, group, mark, &mut known);
+        let check = checks::start(up, depth, group, mark);
         let Verdict::Sound = check else {
-            return refusal(check);
+            return checks::answer(check, 0);
         };
-        let n = up.len();
-        fill::copy(&known[..n], depth);
         fill::number(group);
         fill::clear(mark);
-        Answer { code: 0, value: n }
+        checks::answer(check, up.len())
     }
 
     // One batch of cross links. Every check comes before the first link is used.
@@ -52,18 +44,15 @@ impl Site {
         mark: &mut [u8],
         batch: &[u16],
     ) -> Answer
-        ensures { λ r. ⌜ outcome (r .code) (r .value) (tablesOf (now (depth .exit)) (now (group .exit)) (now (mark .exit)))
+        ensures { λ r. ⌜ outcome r (tablesOf (now (depth .exit)) (now (group .exit)) (now (mark .exit)))
             ≡ addOf (now (up .entry)) (now (batch .entry)) (tablesOf (now (depth .entry)) (now (group .entry)) (now (mark .entry))) ⌝ }
     {
         let check = checks::add(up, depth, group, mark, batch);
         let Verdict::Sound = check else {
-            return refusal(check);
+            return checks::answer(check, 0);
         };
         let rise = ring::apply(up, depth, group, mark, batch);
-        Answer {
-            code: 0,
-            value: rise,
-        }
+        checks::answer(check, rise)
     }
 
     // The choke machines and the choke uplinks. What the two outputs held does not matter.
@@ -75,18 +64,15 @@ impl Site {
         machines: &mut [u8],
         links: &mut [u8],
     ) -> Answer
-        ensures { λ r. ⌜ outcome (r .code) (r .value) (bytesOf (now (machines .exit)) (now (links .exit)))
+        ensures { λ r. ⌜ outcome r (bytesOf (now (machines .exit)) (now (links .exit)))
             ≡ reportOf (now (up .entry)) (tablesOf (now (depth .entry)) (now (group .entry)) (now (mark .entry))) (bytesOf (now (machines .entry)) (now (links .entry))) ⌝ }
     {
         let check = checks::report(up, depth, group, mark, machines, links);
         let Verdict::Sound = check else {
-            return refusal(check);
+            return checks::answer(check, 0);
         };
         let top = checks::hub(up);
         let chokes = report::fill(up, group, mark, top, machines, links);
-        Answer {
-            code: 0,
-            value: chokes,
-        }
+        checks::answer(check, chokes)
     }
 }

@@ -4,7 +4,7 @@ ghost use mathlib.Core.List.{map};
 ghost use Prim.Native.Nat.{_<_, max, min};
 ghost use lib.ListN.{length};
 ghost use Rattle.tables.specs.Link.{meet, renamed, joined};
-ghost use Rattle.site.specs.RingStep.{Ends, Climbs, markFor, Raises, joinedBelow, Linkable, Links, Ready, Applied};
+ghost use Rattle.site.specs.RingStep.{Ends, Climbs, markFor, Raises, joinedBelow, Linkable, Links, Applicable, Applied};
 use checks::at;
 
 // Where the lines of a and b meet. The deeper of two machines climbs: it is not on the other's line, or they would be one.
@@ -134,7 +134,7 @@ fn link(up: &[u16], depth: &[u16], group: &mut [u16], mark: &mut [u8], a: usize,
 
 // Applies a batch that was accepted, link by link. Gives back the total by which marks rose.
 pub fn apply(up: &[u16], depth: &[u16], group: &mut [u16], mark: &mut [u8], batch: &[u16]) -> usize
-    requires { ⌜ Ready (now up) (now depth) (now group) (now mark) (now batch) ⌝ }
+    requires { ⌜ Applicable (now up) (now depth) (now group) (now mark) (now batch) ⌝ }
     ensures { λ r. ⌜ Applied (now (up .entry)) (now (depth .entry)) (now (group .entry)) (now (mark .entry)) (now (batch .entry)) (now (group .exit)) (now (mark .exit)) r ⌝ }
 {
     let mut rise: usize = 0;

@@ -6,8 +6,9 @@ use Prim.Native.Nat.{ℕ, suc, _+_, _≤_}
 use native.Mathlib.Omega.{arith}
 use lib.ListN.{length, set, length-append}
 use lib.Seq.{sets, length-sets}
+use Rattle.tables.specs.Answer.{outcome}
 use Rattle.sitefile.specs.Next.{laid}
-use Rattle.sitefile.specs.Written.{wrote, Appends}
+use Rattle.sitefile.specs.Written.{Appends}
 use Rattle.sitefile.proofs.Fronts.{laid-more}
 
 sets-append : (l : List ℕ) (i : ℕ) (s t : List ℕ) → sets l i (s ++ t) ≡ sets (sets l i s) (i + length s) t
@@ -47,7 +48,7 @@ pub room-reworded : (i n : ℕ) {s t : List ℕ} → s ≡ t → i + length s �
 room-reworded i n e h = subst (λ x. i + length x ≤ n) e h
 
 -- a whole text from the front
-pub over-front : {l m s : List ℕ} {j : ℕ} → length s ≤ length l → Appends l 0 s m j → wrote j m ≡ wrote (length s) (laid s l)
+pub over-front : {l m s : List ℕ} {j : ℕ} → length s ≤ length l → Appends l 0 s m j → outcome j m ≡ outcome (length s) (laid s l)
 over-front {l} {m} {s} {j} h a =
     let e : m ≡ laid s l = a .bytes ∙ laid-more l s 0 (omega arith) in
     let n : j ≡ length s = omega (arith, a .next) in

@@ -9,6 +9,9 @@ use lib.Dec.{leb, ltb}
 use borrow.Author.Tests.{le-leb, lt-leb, lt-ltb, le-ltb, ltb-true, ltb-false, not-true, not-false}
 use Rattle.plain.specs.Table.{at}
 use Rattle.plain.proofs.Says.{Says, says-and, says-lt, says-le, says-eq}
+use Rattle.tables.specs.declared.Answer.{Answer}
+use Rattle.tables.specs.declared.Fault.{Fault}
+use Rattle.tables.specs.Answer.{refusal}
 use Rattle.sitefile.specs.Record.{known, bodyLength}
 use Rattle.sitefile.specs.File.{grown, closed, inPlace, asked, behind, dueOf}
 use Rattle.sitefile.specs.declared.Reader.{Reader}
@@ -22,26 +25,26 @@ module _ (bytes : List ℕ) (r : Reader) where
     unfolding dueOf
     look-end f = rw (le-leb (length bytes) (r .place), sym e ∙ f)
 
-    pub look-cut : b ≡ false → due.Stop 10 (length bytes) ≡ dueOf bytes r
+    pub look-cut : {a : Answer} → b ≡ false → a ≡ refusal Fault.Cut (length bytes) → due.Stop a ≡ dueOf bytes r
     unfolding dueOf
-    look-cut f = rw (le-leb (length bytes) (r .place), sym e ∙ f)
+    look-cut f q = rw (q, le-leb (length bytes) (r .place), sym e ∙ f)
 
   module _ (here : r .place < length bytes) {k : Bool} (e : k ≡ known (at bytes (r .place))) where
-    pub look-unknown : not k ≡ true → due.Stop 11 (r .place) ≡ dueOf bytes r
+    pub look-unknown : {a : Answer} → not k ≡ true → a ≡ refusal Fault.Unknown (r .place) → due.Stop a ≡ dueOf bytes r
     unfolding dueOf
-    look-unknown f = rw (lt-leb (length bytes) (r .place), sym e ∙ not-true k f)
+    look-unknown f q = rw (q, lt-leb (length bytes) (r .place), sym e ∙ not-true k f)
 
     module _ (kind : not k ≡ false) {p : Bool} (q : p ≡ inPlace (at bytes (r .place)) r) where
-      pub look-misplaced : not p ≡ true → due.Stop 12 (r .place) ≡ dueOf bytes r
+      pub look-misplaced : {a : Answer} → not p ≡ true → a ≡ refusal Fault.Misplaced (r .place) → due.Stop a ≡ dueOf bytes r
       unfolding dueOf
-      look-misplaced f = rw (lt-leb (length bytes) (r .place), sym e ∙ not-false k kind, sym q ∙ not-true p f)
+      look-misplaced f z = rw (z, lt-leb (length bytes) (r .place), sym e ∙ not-false k kind, sym q ∙ not-true p f)
 
       module _ (fine : not p ≡ false) {size : ℕ} (s : size ≡ bodyLength (at bytes (r .place))) where
-        pub look-short : length bytes - r .place - 1 < size → due.Stop 10 (length bytes) ≡ dueOf bytes r
+        pub look-short : {a : Answer} → length bytes - r .place - 1 < size → a ≡ refusal Fault.Cut (length bytes) → due.Stop a ≡ dueOf bytes r
         unfolding dueOf
-        look-short f =
+        look-short f z =
             let t : length bytes < behind (r .place) (at bytes (r .place)) = omega arith in
-            rw (lt-leb (length bytes) (r .place), sym e ∙ not-false k kind, sym q ∙ not-false p fine, lt-ltb)
+            rw (z, lt-leb (length bytes) (r .place), sym e ∙ not-false k kind, sym q ∙ not-false p fine, lt-ltb)
 
         pub look-whole : {d : Due} → size ≤ length bytes - r .place - 1 → d ≡ asked (at bytes (r .place)) → d ≡ dueOf bytes r
         unfolding dueOf
@@ -50,14 +53,14 @@ module _ (bytes : List ℕ) (r : Reader) where
             rw (lt-leb (length bytes) (r .place), sym e ∙ not-false k kind, sym q ∙ not-false p fine, le-ltb) g
 
 -- what is known where a record is due: its body is there, and its kind is in place
-unfoldable pub Told : List ℕ → Reader → Due → Type 0
-Told bytes r due.End = Unit {0}
-Told bytes r (due.Stop code value) = Unit {0}
-Told bytes r due.Size = r .place + 3 ≤ length bytes
-Told bytes r due.Uplink = (r .place + 3 ≤ length bytes) × (r .ups < r .n)
-Told bytes r due.Link = r .place + 5 ≤ length bytes
-Told bytes r due.Close = (r .place < length bytes) × (r .ups ≡ r .n)
-Told bytes r due.Report = (r .place < length bytes) × (r .ups ≡ r .n)
+unfoldable pub DueFacts : List ℕ → Reader → Due → Type 0
+DueFacts bytes r due.End = Unit {0}
+DueFacts bytes r (due.Stop refusal) = Unit {0}
+DueFacts bytes r due.Size = r .place + 3 ≤ length bytes
+DueFacts bytes r due.Uplink = (r .place + 3 ≤ length bytes) × (r .ups < r .n)
+DueFacts bytes r due.Link = r .place + 5 ≤ length bytes
+DueFacts bytes r due.Close = (r .place < length bytes) × (r .ups ≡ r .n)
+DueFacts bytes r due.Report = (r .place < length bytes) × (r .ups ≡ r .n)
 
 says-grown : (r : Reader) → Says (grown r) ((0 < r .n) × (r .ups ≡ r .n))
 says-grown r = says-and (says-lt 0 (r .n)) (says-eq (r .ups) (r .n))
@@ -67,8 +70,8 @@ both P true f g = f refl
 both P false f g = g refl
 
 module _ (bytes : List ℕ) (r : Reader) where
-  told-asked : (kind : ℕ) → (1 ≤ kind) × (kind ≤ 5) → inPlace kind r ≡ true → behind (r .place) kind ≤ length bytes → Told bytes r (asked kind)
-  unfolding Told bodyLength
+  told-asked : (kind : ℕ) → (1 ≤ kind) × (kind ≤ 5) → inPlace kind r ≡ true → behind (r .place) kind ≤ length bytes → DueFacts bytes r (asked kind)
+  unfolding DueFacts bodyLength
   told-asked zero k p w = absurd (omega arith)
   told-asked (suc zero) k p w = omega arith
   told-asked (suc (suc zero)) k p w = (omega arith, ltb-true _ _ p)
@@ -77,24 +80,24 @@ module _ (bytes : List ℕ) (r : Reader) where
   told-asked (suc (suc (suc (suc (suc zero))))) k p w = (omega arith, says-and (says-grown r) (says-eq (r .opened) 0) .gives p .0 .1)
   told-asked (suc (suc (suc (suc (suc (suc j)))))) k p w = absurd (omega arith)
 
-  stops : (code value : ℕ) → Told bytes r (due.Stop code value)
-  unfolding Told
-  stops code value = tt
+  stops : (a : Answer) → DueFacts bytes r (due.Stop a)
+  unfolding DueFacts
+  stops a = tt
 
-  ends : Told bytes r due.End
-  unfolding Told
+  ends : DueFacts bytes r due.End
+  unfolding DueFacts
   ends = tt
 
-  due-told : Told bytes r (dueOf bytes r)
+  due-told : DueFacts bytes r (dueOf bytes r)
   unfolding dueOf
   due-told =
       let kind = at bytes (r .place) in
-      let T = Told bytes r in
-      both T (leb (length bytes) (r .place)) (λ a. both T (closed r) (λ b. ends) (λ b. stops _ _)) λ a.
-      both T (not (known kind)) (λ b. stops _ _) λ b.
-      both T (not (inPlace kind r)) (λ c. stops _ _) λ c.
-      both T (ltb (length bytes) (behind (r .place) kind)) (λ d. stops _ _) λ d.
+      let T = DueFacts bytes r in
+      both T (leb (length bytes) (r .place)) (λ a. both T (closed r) (λ b. ends) (λ b. stops _)) λ a.
+      both T (not (known kind)) (λ b. stops _) λ b.
+      both T (not (inPlace kind r)) (λ c. stops _) λ c.
+      both T (ltb (length bytes) (behind (r .place) kind)) (λ d. stops _) λ d.
       told-asked kind (says-and (says-le 1 kind) (says-le kind 5) .gives (not-false _ b)) (not-false _ c) (ltb-false _ _ d)
 
-  pub told : {d : Due} → dueOf bytes r ≡ d → Told bytes r d
+  pub told : {d : Due} → dueOf bytes r ≡ d → DueFacts bytes r d
   told e = rw e at due-told

@@ -3,21 +3,25 @@
 use mathlib.Core.Path.{_≡_, sym, ap, _∙_}
 use mathlib.Core.Logic.{_≢_}
 use mathlib.Core.List.{List, [], _∷_, _++_}
-use Prim.Native.Nat.{ℕ, suc, _+_, _*_, _≤_, _<_}
+use Prim.Native.Nat.{ℕ, suc, _+_, _≤_, _<_}
 use native.Mathlib.Omega.{arith}
 use native.Mathlib.Numerals.{add-one}
 use lib.ListN.{length, take, set}
 use lib.Seq.{length-take-le, take-suc-set, set-set, set-getD}
-use borrow.Author.Tests.{le-leb, lt-leb, lt-ltb, le-ltb}
+use borrow.Author.Tests.{lt-ltb, le-ltb}
 use Rattle.plain.specs.Table.{at}
-use Rattle.tables.specs.Tree.{mostMachines, sizeVerdict, treeVerdict}
-use Rattle.tables.specs.Tables.{Tables, fresh}
-use Rattle.tables.specs.Batch.{mostLinks}
-use Rattle.tables.specs.Outcome.{answer}
-use Rattle.tables.specs.Lent.{tablesOf, outcome}
+use Rattle.tables.specs.declared.Answer.{Answer}
+use Rattle.tables.specs.declared.Fault.{Fault}
+use Rattle.tables.specs.declared.Verdict.the-variants.{the-data as Verdict, Sound, Refused}
+use Rattle.tables.specs.Answer.{answerTo, outcome, judged}
+use Rattle.tables.specs.Tree.{sizeVerdict, treeVerdict}
+use Rattle.tables.specs.Tables.{Tables, tablesOf, fresh}
+use Rattle.tables.specs.Batch.{lengthVerdict}
+use Rattle.tables.proofs.Calls.{limits}
+use Rattle.checks.proofs.Checking.{told}
 use Rattle.sitefile.specs.Record.{bodyLength, bodyOf, word}
 use Rattle.sitefile.specs.File as file
-use Rattle.sitefile.specs.Next.{Room, readOf, holding, laidTables, roomOf, went}
+use Rattle.sitefile.specs.Next.{Room, readOf, holding, laidTables, roomOf}
 use Rattle.sitefile.specs.Reading.{leads, startFront, UplinkDue, LinkDue}
 use Rattle.sitefile.specs.declared.Reader.{Reader}
 use Rattle.sitefile.specs.declared.Step.the-variants as steps
@@ -33,20 +37,17 @@ pub number-in : {part body : List ℕ} {m : ℕ} (i : ℕ) → part ≡ body →
 number-in i b e = e ∙ ap (λ l. word l i) b
 
 -- kind 1
-module _ (bytes : List ℕ) (r : Reader) (m : ℕ) (e : m ≡ word (bodyOf bytes (r .place)) 0) where
-  pub size-none : m ≡ 0 → (room : Room) → went (steps.Refused 1 m) room ≡ leads bytes r due.Size room
-  unfolding leads file.done file.size sizeVerdict readOf
-  size-none z room = rw (sym e, z)
+module _ (bytes : List ℕ) (r : Reader) (m : ℕ) {c : Verdict} (e : m ≡ word (bodyOf bytes (r .place)) 0) (q : c ≡ sizeVerdict m) where
+  pub size-refused : {a : Answer} {why : Fault} {place : ℕ} → c ≡ Refused why place → a ≡ answerTo c 0
+      → (room : Room) → outcome (steps.Refused a) room ≡ leads bytes r due.Size room
+  unfolding leads file.done file.size readOf
+  size-refused f a room = rw (sym e, told f q, a, f)
 
-  pub size-many : mostMachines < m → (room : Room) → went (steps.Refused 1 m) room ≡ leads bytes r due.Size room
-  unfolding leads file.done file.size sizeVerdict readOf
-  size-many h room = rw (sym e, lt-ltb 0 m (omega arith), lt-leb m mostMachines)
-
-  pub size-read : m ≢ 0 → m ≤ mostMachines → (room : Room) → went (steps.Read (readerAt (r .place + 3) m 0 0)) room ≡ leads bytes r due.Size room
-  unfolding leads file.done file.size sizeVerdict readOf holding bodyLength
-  size-read f h room =
+  pub size-read : c ≡ Sound → (room : Room) → outcome (steps.Read (readerAt (r .place + 3) m 0 0)) room ≡ leads bytes r due.Size room
+  unfolding leads file.done file.size readOf holding bodyLength
+  size-read f room =
       let p : r .place + 1 + 2 ≡ r .place + 3 = omega arith in
-      rw (sym e, lt-ltb 0 m (omega arith), le-leb m mostMachines, p)
+      rw (sym e, told f q, p)
 
 -- kind 2
 module _ (bytes : List ℕ) (r : Reader) (up depth group mark batch machines links : List ℕ) {u : ℕ} (e : u ≡ word (bodyOf bytes (r .place)) 0)
@@ -67,15 +68,15 @@ module _ (bytes : List ℕ) (r : Reader) (up depth group mark batch machines lin
   grown-length = let h = more in length-more up (u ∷ []) (r .ups) (omega arith)
 
   -- before the last
-  pub uplink-more : r .ups + 1 < r .n → went (steps.Read after) (roomOf (set up (r .ups) u) depth group mark batch machines links) ≡ leads bytes r due.Uplink room₂
+  pub uplink-more : r .ups + 1 < r .n → outcome (steps.Read after) (roomOf (set up (r .ups) u) depth group mark batch machines links) ≡ leads bytes r due.Uplink room₂
   unfolding leads file.done file.uplink readOf holding bodyLength
   uplink-more h =
       let p : r .place + 1 + 2 ≡ r .place + 3 = omega arith in
       rw (sym e, laid-more up (u ∷ []) (r .ups) more, grown-length, lt-ltb (r .ups + 1) (r .n), p, grown-length)
 
   -- after the last: Start has answered
-  module _ (last : r .n ≤ r .ups + 1) {code value : ℕ} {depth′ group′ mark′ : List ℕ}
-      (a : outcome code value (tablesOf depth′ group′ mark′) ≡ startFront (r .n) (set up (r .ups) u) (tablesOf depth group mark)) where
+  module _ (last : r .n ≤ r .ups + 1) {answer : Answer} {depth′ group′ mark′ : List ℕ}
+      (a : outcome answer (tablesOf depth′ group′ mark′) ≡ startFront (r .n) (set up (r .ups) u) (tablesOf depth group mark)) where
     abbrev own : Tables
     own = tablesOf depth group mark
 
@@ -83,23 +84,30 @@ module _ (bytes : List ℕ) (r : Reader) (up depth group mark batch machines lin
     grown-is : take (r .n) (set up (r .ups) u) ≡ grown
     grown-is = let s : suc (r .ups) ≡ r .n = omega arith in ap (λ k. take k (set up (r .ups) u)) (sym s) ∙ take-suc-set up (r .ups) u (omega (arith, more))
 
-    started : outcome code value (tablesOf depth′ group′ mark′) ≡ answer (treeVerdict grown) own (r .n) (laidTables (fresh grown) own)
+    started : outcome answer (tablesOf depth′ group′ mark′) ≡ judged (treeVerdict grown) own (r .n) (laidTables (fresh grown) own)
     started = rw grown-is at a
 
-    pub uplink-last : code ≡ 0 → went (steps.Read after) (roomOf (set up (r .ups) u) depth′ group′ mark′ batch machines links) ≡ leads bytes r due.Uplink room₂
+    pub uplink-last : answer .code ≡ 0 → outcome (steps.Read after) (roomOf (set up (r .ups) u) depth′ group′ mark′ batch machines links) ≡ leads bytes r due.Uplink room₂
     unfolding leads file.done file.uplink readOf holding bodyLength
     uplink-last z =
         let p : r .place + 1 + 2 ≡ r .place + 3 = omega arith in
         let (s, _, l) = answer-sound own (r .n) (laidTables (fresh grown) own) (treeVerdict grown) started z in
         rw (sym e, laid-more up (u ∷ []) (r .ups) more, grown-length, le-ltb (r .ups + 1) (r .n), s, l, p, grown-length)
 
-    pub uplink-refused : code ≢ 0 → went (steps.Refused code value) (roomOf (set (set up (r .ups) u) (r .ups) (at up (r .ups))) depth′ group′ mark′ batch machines links) ≡ leads bytes r due.Uplink room₂
+    pub uplink-refused : answer .code ≢ 0 → outcome (steps.Refused answer) (roomOf (set (set up (r .ups) u) (r .ups) (at up (r .ups))) depth′ group′ mark′ batch machines links) ≡ leads bytes r due.Uplink room₂
     unfolding leads file.done file.uplink readOf
     uplink-refused f =
         let (s, l) = answer-refused own (r .n) (laidTables (fresh grown) own) (treeVerdict grown) f started in
-        rw (sym e, set-set up (r .ups) u (at up (r .ups)), set-getD up (r .ups) 0, grown-length, le-ltb (r .ups + 1) (r .n), s .is, s .number, l)
+        rw (sym e, set-set up (r .ups) u (at up (r .ups)), set-getD up (r .ups) 0, grown-length, le-ltb (r .ups + 1) (r .n), s .is, ← s .answered, l)
 
--- kind 3
+-- kind 3: where the batch may have two numbers more, the slice has room for them
+module _ {bytes : List ℕ} {r : Reader} (batch : List ℕ) {c : Verdict} (d : LinkDue bytes r (length batch)) (q : c ≡ lengthVerdict (r .opened + 2)) (f : c ≡ Sound) where
+  pub room-second : r .opened + 1 < length batch
+  room-second = let k = limits .links (r .opened + 2) .0 (told f q) in omega (arith, d .size)
+
+  pub room-first : r .opened < length batch
+  room-first = let h = room-second in omega arith
+
 module _ (bytes : List ℕ) (r : Reader) (up depth group mark batch machines links : List ℕ) (d : LinkDue bytes r (length batch)) where
   abbrev room₃ : Room
   room₃ = roomOf up depth group mark batch machines links
@@ -107,15 +115,17 @@ module _ (bytes : List ℕ) (r : Reader) (up depth group mark batch machines lin
   opened-size : length (take (r .opened) batch) ≡ r .opened
   opened-size = length-take-le (r .opened) batch (d .inside)
 
-  pub link-full : 2 * mostLinks ≤ r .opened → went (steps.Refused 7 (2 * mostLinks + 2)) room₃ ≡ leads bytes r due.Link room₃
-  unfolding leads file.done file.link readOf
-  link-full f = rw (opened-size, le-ltb (r .opened) (2 * mostLinks))
+  module _ {c : Verdict} (q : c ≡ lengthVerdict (r .opened + 2)) where
+    pub link-full : {a : Answer} {why : Fault} {place : ℕ} → c ≡ Refused why place → a ≡ answerTo c 0 → outcome (steps.Refused a) room₃ ≡ leads bytes r due.Link room₃
+    unfolding leads file.done file.link readOf
+    link-full f a = rw (opened-size, told f q, a, f)
 
-  pub link-read : {a b : ℕ} → a ≡ word (bodyOf bytes (r .place)) 0 → b ≡ word (bodyOf bytes (r .place)) 1 → r .opened < 2 * mostLinks → r .ups ≤ length up
-      → went (steps.Read (readerAt (r .place + 5) (r .n) (r .ups) (r .opened + 2))) (roomOf up depth group mark (set (set batch (r .opened) a) (r .opened + 1) b) machines links)
-      ≡ leads bytes r due.Link room₃
-  unfolding leads file.done file.link readOf holding bodyLength
-  link-read {a} {b} ea eb f l =
-      let p : r .place + 1 + 4 ≡ r .place + 5 = omega arith in
-      rw (sym ea, sym eb, opened-size, lt-ltb (r .opened) (2 * mostLinks))
-      (simp laid-front (rw (add-one (r .opened), laid-more batch (a ∷ b ∷ []) (r .opened) (omega arith), p, length-take-le (r .ups) up l, length-more batch (a ∷ b ∷ []) (r .opened) (d .inside))))
+    pub link-read : {a b : ℕ} → a ≡ word (bodyOf bytes (r .place)) 0 → b ≡ word (bodyOf bytes (r .place)) 1 → c ≡ Sound → r .ups ≤ length up
+        → outcome (steps.Read (readerAt (r .place + 5) (r .n) (r .ups) (r .opened + 2))) (roomOf up depth group mark (set (set batch (r .opened) a) (r .opened + 1) b) machines links)
+        ≡ leads bytes r due.Link room₃
+    unfolding leads file.done file.link readOf holding bodyLength
+    link-read {a} {b} ea eb f l =
+        let p : r .place + 1 + 4 ≡ r .place + 5 = omega arith in
+        let h : r .opened + 2 ≤ length batch = omega (arith, room-second batch d q f) in
+        rw (sym ea, sym eb, opened-size, told f q)
+        (simp laid-front (rw (add-one (r .opened), laid-more batch (a ∷ b ∷ []) (r .opened) h, p, length-take-le (r .ups) up l, length-more batch (a ∷ b ∷ []) (r .opened) (d .inside))))

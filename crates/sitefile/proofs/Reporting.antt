@@ -13,23 +13,25 @@ use mir.Val.{Fits}
 use Rattle.plain.specs.Table.{at}
 use Rattle.plain.proofs.Says.{says-and, says-le, says-eq}
 use Rattle.tables.specs.Tree.{mostMachines}
-use Rattle.tables.specs.Outcome.{named}
-use Rattle.sitefile.specs.Text.{line, machineLines, uplinkLines, reportText}
-use Rattle.sitefile.specs.Written.{wrote, refusalWritten, reportFits, reportWritten, Appends, Uplinks}
+use Rattle.tables.specs.declared.Answer.{Answer}
+use Rattle.tables.specs.Answer.{outcome}
+use Rattle.tables.specs.Report.{bytesOf, named}
+use Rattle.sitefile.specs.Text.{line, machineLines, uplinkLines, reportText, refusalText}
+use Rattle.sitefile.specs.Written.{refusalWritten, reportFits, reportWritten, Appends, Uplinks}
 use Rattle.sitefile.proofs.Appending.{then, reworded, room, room-first, over-front}
 use Rattle.sitefile.proofs.Widths.{any-line, machine-lines, uplink-lines}
 
-module _ (code value : ℕ) (buffer : List ℕ) where
-  pub refusal-unfit : length buffer < 64 → wrote 0 buffer ≡ refusalWritten code value buffer
+module _ (refusal : Answer) (buffer : List ℕ) where
+  pub refusal-unfit : length buffer < 64 → outcome 0 buffer ≡ refusalWritten refusal buffer
   unfolding refusalWritten
   refusal-unfit h = rw (lt-leb 64 (length buffer))
 
-  pub refusal-room : 64 ≤ length buffer → 0 + length (line 82 code value) ≤ length buffer
-  refusal-room h = omega (arith, any-line 82 code value)
+  pub refusal-room : 64 ≤ length buffer → 0 + length (refusalText refusal) ≤ length buffer
+  refusal-room h = omega (arith, any-line 82 (refusal .code) (refusal .value))
 
-  pub refused : {m : List ℕ} {j : ℕ} → 64 ≤ length buffer → Appends buffer 0 (line 82 code value) m j → wrote j m ≡ refusalWritten code value buffer
+  pub refused : {m : List ℕ} {j : ℕ} → 64 ≤ length buffer → Appends buffer 0 (refusalText refusal) m j → outcome j m ≡ refusalWritten refusal buffer
   unfolding refusalWritten
-  refused h a = rw (le-leb 64 (length buffer)) (over-front (omega (arith, any-line 82 code value)) a)
+  refused h a = rw (le-leb 64 (length buffer)) (over-front (omega (arith, any-line 82 (refusal .code) (refusal .value))) a)
 
 -- the three parts, as the code has their lengths
 abbrev machinePart : List ℕ → List ℕ
@@ -42,7 +44,7 @@ abbrev totalPart : List ℕ → List ℕ → List ℕ
 totalPart machines links = line 84 (named machines) (named links)
 
 module _ (up machines links buffer : List ℕ) {b : Bool} (e : b ≡ reportFits (length up) (length machines) (length links) (length buffer)) where
-  pub unfit : not b ≡ true → wrote 0 buffer ≡ reportWritten up machines links buffer
+  pub unfit : not b ≡ true → outcome 0 buffer ≡ reportWritten up machines links buffer
   unfolding reportWritten
   unfit f = rw (sym e ∙ not-true b f)
 
@@ -52,7 +54,7 @@ module _ (up machines links buffer : List ℕ) {b : Bool} (e : b ≡ reportFits 
         let n = length up in
         says-and (says-le n mostMachines) (says-and (says-eq (length machines) n) (says-and (says-eq (length links) n) (says-le (24 * n + 64) (length buffer)))) .gives (sym e ∙ not-false b f)
 
-    parts : machinePart machines ++ (uplinkPart up links ++ totalPart machines links) ≡ reportText up (record { machines = machines; links = links })
+    parts : machinePart machines ++ (uplinkPart up links ++ totalPart machines links) ≡ reportText up (bytesOf machines links)
     unfolding reportText
     parts = rw (fit .1 .0, fit .1 .1 .0)
 
@@ -80,8 +82,8 @@ module _ (up machines links buffer : List ℕ) {b : Bool} (e : b ≡ reportFits 
         pub room-totals : k + length (totalPart machines links) ≤ length o
         room-totals = room (totalPart machines links) rest second
 
-        pub reported : {n : List ℕ} {r : ℕ} → Appends o k (totalPart machines links) n r → wrote r n ≡ reportWritten up machines links buffer
+        pub reported : {n : List ℕ} {r : ℕ} → Appends o k (totalPart machines links) n r → outcome r n ≡ reportWritten up machines links buffer
         unfolding reportWritten
         reported third =
-            let text : length (reportText up (record { machines = machines; links = links })) ≤ length buffer = omega (arith, whole, ap length parts) in
+            let text : length (reportText up (bytesOf machines links)) ≤ length buffer = omega (arith, whole, ap length parts) in
             rw (sym e ∙ not-false b f) (over-front text (reworded parts (then first (then second third))))

@@ -5,13 +5,15 @@ use Prim.Native.Nat.{ℕ, zero, suc, _+_, _*_}
 use lib.ListN.{length}
 use lib.Dec.{leb, ltb, eqb}
 use Rattle.plain.specs.Table.{at}
-use Rattle.tables.specs.Verdict.{numberOf}
+use Rattle.tables.specs.declared.Answer.{Answer}
+use Rattle.tables.specs.declared.Fault.{Fault}
 use Rattle.tables.specs.declared.Verdict.the-variants.{the-data as Verdict, Sound, Refused}
+use Rattle.tables.specs.Answer.{refusal}
 use Rattle.tables.specs.Tree.{sizeVerdict, treeVerdict}
 use Rattle.tables.specs.Tables.{Tables, fresh}
-use Rattle.tables.specs.Batch.{mostLinks}
-use Rattle.tables.specs.Report.{machineBytes, linkBytes}
-use Rattle.tables.specs.Outcome.{Bytes, addVerdict, addOf, reportVerdict}
+use Rattle.tables.specs.Batch.{lengthVerdict}
+use Rattle.tables.specs.Report.{Bytes, bytesOf, machineBytes, linkBytes}
+use Rattle.tables.specs.Outcome.{addVerdict, addOf, reportVerdict}
 use Rattle.sitefile.specs.Record.{known, bodyLength, bodyOf, word}
 use Rattle.sitefile.specs.Text.{reportText, refusalText}
 use Rattle.sitefile.specs.declared.Reader.{Reader}
@@ -41,12 +43,12 @@ begin = record { place = 0; n = 0; up = []; tables = none; opened = [] }
 abbrev pub readerOf : Read → Reader
 readerOf r = record { place = r .place; n = r .n; ups = length (r .up); opened = length (r .opened) }
 
--- a record is read and there is more; a report is due; the file ends as it may; or the code and the value of a refusal
-pub data Next : Type 0 where
-  on : Read → Next
-  reports : Read → Bytes → Next
-  ended : Next
-  stop : ℕ → ℕ → Next
+-- what the next record comes to: it is read and there is more; it is a report, with these bytes; the file ends as it may; or a refusal
+pub data FileStep : Type 0 where
+  reads : Read → FileStep
+  reports : Read → Bytes → FileStep
+  ends : FileStep
+  refuses : Answer → FileStep
 
 -- the tree is whole: every uplink is read
 abbrev pub grown : Reader → Bool
@@ -68,55 +70,55 @@ asked kind = cond (eqb kind 1) due.Size (cond (eqb kind 2) due.Uplink (cond (eqb
 abbrev pub behind : ℕ → ℕ → ℕ
 behind place kind = place + 1 + bodyLength kind
 
--- what is due: 11 unknown kind, 12 known kind out of place, 10 the file ends inside the record, before the last kind 2 or with links not closed
+-- what is due. 10: the file ends before the last kind 2 or with links not closed; 11: an unknown kind; 12: a known kind out of place; 10: the file ends
+-- inside the record
 unfoldable pub dueOf : List ℕ → Reader → Due
 dueOf file r =
     let kind = at file (r .place) in
-    cond (leb (length file) (r .place)) (cond (closed r) due.End (due.Stop 10 (length file)))
-    (cond (not (known kind)) (due.Stop 11 (r .place))
-    (cond (not (inPlace kind r)) (due.Stop 12 (r .place))
-    (cond (ltb (length file) (behind (r .place) kind)) (due.Stop 10 (length file)) (asked kind))))
+    cond (leb (length file) (r .place)) (cond (closed r) due.End (due.Stop (refusal Fault.Cut (length file))))
+    (cond (not (known kind)) (due.Stop (refusal Fault.Unknown (r .place)))
+    (cond (not (inPlace kind r)) (due.Stop (refusal Fault.Misplaced (r .place)))
+    (cond (ltb (length file) (behind (r .place) kind)) (due.Stop (refusal Fault.Cut (length file))) (asked kind))))
 
--- what one check of a call leads to
-abbrev pub unlessRefused : Verdict → Next → Next
+-- what a check leads to
+abbrev pub unlessRefused : Verdict → FileStep → FileStep
 unlessRefused Sound next = next
-unlessRefused (Refused why place) next = stop (numberOf why) place
+unlessRefused (Refused why place) next = refuses (refusal why place)
 
 -- kind 1: n, from 1 to 4,096
-unfoldable pub size : Read → ℕ → Next
-size r m = unlessRefused (sizeVerdict m) (on (record { place = behind (r .place) 1; n = m; up = []; tables = none; opened = [] }))
+unfoldable pub size : Read → ℕ → FileStep
+size r m = unlessRefused (sizeVerdict m) (reads (record { place = behind (r .place) 1; n = m; up = []; tables = none; opened = [] }))
 
 -- kind 2: the up of the next machine; Start runs after the last
-unfoldable pub uplink : Read → ℕ → Next
+unfoldable pub uplink : Read → ℕ → FileStep
 uplink r u =
     let up = r .up ++ (u ∷ []) in
-    cond (ltb (length up) (r .n)) (on (record { place = behind (r .place) 2; n = r .n; up = up; tables = none; opened = [] }))
-    (unlessRefused (treeVerdict up) (on (record { place = behind (r .place) 2; n = r .n; up = up; tables = fresh up; opened = [] })))
+    cond (ltb (length up) (r .n)) (reads (record { place = behind (r .place) 2; n = r .n; up = up; tables = none; opened = [] }))
+    (unlessRefused (treeVerdict up) (reads (record { place = behind (r .place) 2; n = r .n; up = up; tables = fresh up; opened = [] })))
 
--- kind 3: a link; one over the most that a batch may have is refused with the length that the batch would reach
-unfoldable pub link : Read → ℕ → ℕ → Next
+-- kind 3: a link; the batch may have no more numbers than it may have when it is closed
+unfoldable pub link : Read → ℕ → ℕ → FileStep
 link r a b =
-    cond (ltb (length (r .opened)) (2 * mostLinks))
-    (on (record { place = behind (r .place) 3; n = r .n; up = r .up; tables = r .tables; opened = r .opened ++ (a ∷ b ∷ []) }))
-    (stop 7 (2 * mostLinks + 2))
+    unlessRefused (lengthVerdict (length (r .opened) + 2))
+    (reads (record { place = behind (r .place) 3; n = r .n; up = r .up; tables = r .tables; opened = r .opened ++ (a ∷ b ∷ []) }))
 
 -- kind 4: the open links are added
-unfoldable pub close : Read → Next
+unfoldable pub close : Read → FileStep
 close r =
     unlessRefused (addVerdict (r .up) (r .opened) (r .tables))
-    (on (record { place = behind (r .place) 4; n = r .n; up = r .up; tables = addOf (r .up) (r .opened) (r .tables) .lent; opened = [] }))
+    (reads (record { place = behind (r .place) 4; n = r .n; up = r .up; tables = addOf (r .up) (r .opened) (r .tables) .lent; opened = [] }))
 
 -- kind 5: a report
-unfoldable pub report : Read → Next
+unfoldable pub report : Read → FileStep
 report r =
-    let o : Bytes = record { machines = machineBytes (r .up) (r .tables); links = linkBytes (r .up) (r .tables) } in
+    let o = bytesOf (machineBytes (r .up) (r .tables)) (linkBytes (r .up) (r .tables)) in
     unlessRefused (reportVerdict (r .up) (r .tables) o)
     (reports (record { place = behind (r .place) 5; n = r .n; up = r .up; tables = r .tables; opened = [] }) o)
 
 -- what is due is done; a record is known, in place and whole by then
-unfoldable pub done : List ℕ → Read → Due → Next
-done file r due.End = ended
-done file r (due.Stop code value) = stop code value
+unfoldable pub done : List ℕ → Read → Due → FileStep
+done file r due.End = ends
+done file r (due.Stop refusal) = refuses refusal
 done file r due.Size = size r (word (bodyOf file (r .place)) 0)
 done file r due.Uplink = uplink r (word (bodyOf file (r .place)) 0)
 done file r due.Link = link r (word (bodyOf file (r .place)) 0) (word (bodyOf file (r .place)) 1)
@@ -124,19 +126,19 @@ done file r due.Close = close r
 done file r due.Report = report r
 
 -- the next record
-unfoldable pub step : List ℕ → Read → Next
+unfoldable pub step : List ℕ → Read → FileStep
 step file r = done file r (dueOf file (readerOf r))
 
 -- what the next k records print
 unfoldable pub prints : ℕ → List ℕ → Read → List ℕ
 prints zero file r = []
 prints (suc k) file r = elim (step file r) [
-  | on r′ ↦ prints k file r′
+  | reads r′ ↦ prints k file r′
   | reports r′ o ↦ reportText (r′ .up) o ++ prints k file r′
-  | ended ↦ []
-  | stop code value ↦ refusalText code value
+  | ends ↦ []
+  | refuses refusal ↦ refusalText refusal
 ]
 
 -- what the program prints for a file; 13, longer than 16,384 bytes, is looked at first. Each record takes a byte, so there are no more than the file has
 unfoldable pub printed : List ℕ → List ℕ
-printed file = cond (ltb mostBytes (length file)) (refusalText 13 mostBytes) (prints (suc (length file)) file begin)
+printed file = cond (ltb mostBytes (length file)) (refusalText (refusal Fault.Long mostBytes)) (prints (suc (length file)) file begin)

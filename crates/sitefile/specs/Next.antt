@@ -6,9 +6,9 @@ use lib.ListN.{length, take, drop}
 use lib.Dec.{leb, eqb}
 use Rattle.tables.specs.Tree.{mostMachines}
 use Rattle.tables.specs.Batch.{mostLinks}
-use Rattle.tables.specs.Tables.{Tables}
-use Rattle.tables.specs.Outcome.{Bytes}
-use Rattle.tables.specs.Lent.{tablesOf, bytesOf}
+use Rattle.tables.specs.Answer.{Outcome, outcome}
+use Rattle.tables.specs.Tables.{Tables, tablesOf}
+use Rattle.tables.specs.Report.{Bytes, bytesOf}
 use Rattle.sitefile.specs.File as file
 use Rattle.sitefile.specs.declared.Reader.{Reader}
 use Rattle.sitefile.specs.declared.Step.{Step}
@@ -25,17 +25,9 @@ pub record Room : Type 0 where
 abbrev pub roomOf : List ℕ → List ℕ → List ℕ → List ℕ → List ℕ → List ℕ → List ℕ → Room
 roomOf up depth group mark batch machines links = record { up = up; tables = tablesOf depth group mark; batch = batch; outputs = bytesOf machines links }
 
--- the slices are of these lengths
-abbrev pub lengthsFit : ℕ → ℕ → ℕ → ℕ → ℕ → ℕ → ℕ → Bool
-lengthsFit up depth group mark batch machines links =
-    eqb up mostMachines && (eqb depth mostMachines && (eqb group mostMachines && (eqb mark mostMachines && (eqb batch (2 * mostLinks) && (eqb machines mostMachines && eqb links mostMachines)))))
-
--- the reader counts no more than they hold, and whole links
+-- a reader that a file leads to counts no more than the slices hold, and whole links
 abbrev pub countsFit : Reader → Bool
 countsFit r = leb (r .n) mostMachines && (leb (r .ups) (r .n) && (leb (r .opened) (2 * mostLinks) && eqb (r .opened % 2) 0))
-
-unfoldable pub fits : Reader → ℕ → ℕ → ℕ → ℕ → ℕ → ℕ → ℕ → Bool
-fits r up depth group mark batch machines links = lengthsFit up depth group mark batch machines links && countsFit r
 
 -- the first entries of each table
 abbrev pub front : ℕ → Tables → Tables
@@ -62,25 +54,13 @@ laidTables t slices = tablesOf (laid (t .depth) (slices .depth)) (laid (t .group
 unfoldable pub holding : file.Read → Room → Bytes → Room
 holding r room o = record { up = laid (r .up) (room .up); tables = laidTables (r .tables) (room .tables); batch = laid (r .opened) (room .batch); outputs = o }
 
-pub record Went : Type 0 where
-  pub step : Step
-  pub room : Room
+-- a step of the file over the slices, in the reader's numbers: a refusal and the end leave every slice as it came
+abbrev pub stepOver : file.FileStep → Room → Outcome Step Room
+stepOver (file.reads r) room = outcome (steps.Read (file.readerOf r)) (holding r room (room .outputs))
+stepOver (file.reports r o) room =
+    outcome (steps.Report (file.readerOf r)) (holding r room (bytesOf (laid (o .machines) (room .outputs .machines)) (laid (o .links) (room .outputs .links))))
+stepOver file.ends room = outcome steps.End room
+stepOver (file.refuses refusal) room = outcome (steps.Refused refusal) room
 
-abbrev pub went : Step → Room → Went
-went s room = record { step = s; room = room }
-
--- a refusal and the end leave every slice as it came
-abbrev pub wentOf : file.Next → Room → Went
-wentOf (file.on r) room = went (steps.Read (file.readerOf r)) (holding r room (room .outputs))
-wentOf (file.reports r o) room =
-    went (steps.Report (file.readerOf r)) (holding r room (bytesOf (laid (o .machines) (room .outputs .machines)) (laid (o .links) (room .outputs .links))))
-wentOf file.ended room = went steps.End room
-wentOf (file.stop code value) room = went (steps.Refused code value) room
-
-unfoldable pub nextOf : List ℕ → Reader → Room → Went
-nextOf bytes r room =
-    let t = room .tables in
-    let o = room .outputs in
-    cond (fits r (length (room .up)) (length (t .depth)) (length (t .group)) (length (t .mark)) (length (room .batch)) (length (o .machines)) (length (o .links)))
-    (wentOf (file.step bytes (readOf r room)) room)
-    (went steps.Unfit room)
+unfoldable pub nextOf : List ℕ → Reader → Room → Outcome Step Room
+nextOf bytes r room = cond (countsFit r) (stepOver (file.step bytes (readOf r room)) room) (outcome steps.Unfit room)

@@ -1,21 +1,24 @@
 -- What the parts of the reader are to answer and to leave, and what they ask of the lengths of the lent slices.
 -- These are the contracts of private functions: the public calls do not cite them, so nothing here has to be believed.
 use mathlib.Core.Path.{_≡_}
+use mathlib.Core.Bool.{true}
 use mathlib.Core.List.{List}
 use Prim.Native.Nat.{ℕ, _+_, _*_, _%_, _^_, _<_, _≤_}
 use lib.ListN.{length, take}
 use Rattle.tables.specs.Tree.{mostMachines, treeVerdict}
 use Rattle.tables.specs.Tables.{Tables, fresh}
 use Rattle.tables.specs.Batch.{mostLinks}
-use Rattle.tables.specs.Outcome.{Answer, answer}
+use Rattle.tables.specs.declared.Answer.{Answer}
+use Rattle.tables.specs.Answer.{Outcome, judged}
 use Rattle.sitefile.specs.File as file
-use Rattle.sitefile.specs.Next.{Room, Went, readOf, laidTables, wentOf}
+use Rattle.sitefile.specs.Next.{Room, countsFit, readOf, laidTables, stepOver}
+use Rattle.sitefile.specs.declared.Step.{Step}
 use Rattle.sitefile.specs.declared.Reader.{Reader}
 use Rattle.sitefile.specs.declared.due.Due.{Due}
 
 -- what is due, done over the slices
-unfoldable pub leads : List ℕ → Reader → Due → Room → Went
-leads bytes r d room = wentOf (file.done bytes (readOf r room) d) room
+unfoldable pub leads : List ℕ → Reader → Due → Room → Outcome Step Room
+leads bytes r d room = stepOver (file.done bytes (readOf r room) d) room
 
 -- each table has n entries or more
 pub record Fronts (n up depth group mark : ℕ) : Type 0 where
@@ -31,8 +34,20 @@ pub record StartDue (n up depth group mark : ℕ) : Type 0 where
   pub fronts : Fronts n up depth group mark
 
 -- Start over the front parts: only the tree can be refused
-abbrev pub startFront : ℕ → List ℕ → Tables → Answer Tables
-startFront n up t = answer (treeVerdict (take n up)) t n (laidTables (fresh (take n up)) t)
+abbrev pub startFront : ℕ → List ℕ → Tables → Outcome Answer Tables
+startFront n up t = judged (treeVerdict (take n up)) t n (laidTables (fresh (take n up)) t)
+
+-- what is due is done under: it is due, the counts fit, and the slices have room for any site
+pub record Doing (bytes : List ℕ) (r : Reader) (d : Due) (up depth group mark batch machines links : ℕ) : Type 0 where
+  pub is-due : d ≡ file.dueOf bytes r
+  pub counts : countsFit r ≡ true
+  pub in-up : up ≡ mostMachines
+  pub in-depth : depth ≡ mostMachines
+  pub in-group : group ≡ mostMachines
+  pub in-mark : mark ≡ mostMachines
+  pub in-batch : batch ≡ 2 * mostLinks
+  pub in-machines : machines ≡ mostMachines
+  pub in-links : links ≡ mostMachines
 
 -- what the records of kind 2, 3, 4 and 5 are read under
 pub record UplinkDue (bytes : List ℕ) (r : Reader) (up depth group mark : ℕ) : Type 0 where

@@ -5,7 +5,8 @@ use Prim.Native.Nat.{ℕ, zero, suc, _+_, _/_, _%_}
 use lib.ListN.{length}
 use lib.Dec.{eqb, ltb}
 use Rattle.plain.specs.Table.{at}
-use Rattle.tables.specs.Outcome.{Bytes, named}
+use Rattle.tables.specs.declared.Answer.{Answer}
+use Rattle.tables.specs.Report.{Bytes, named}
 
 -- the decimal digits of n, the first of them not 0 unless it is the only one; k is at least the number of digits
 unfoldable pub digits : ℕ → ℕ → List ℕ
@@ -49,5 +50,5 @@ reportText up o =
     machineLines (o .machines) 0 (length up) ++ (uplinkLines up (o .links) 0 (length up) ++ line 84 (named (o .machines)) (named (o .links)))
 
 -- the text of a refusal: `R code value`
-abbrev pub refusalText : ℕ → ℕ → List ℕ
-refusalText code value = line 82 code value
+abbrev pub refusalText : Answer → List ℕ
+refusalText a = line 82 (a .code) (a .value)

@@ -6,35 +6,30 @@ use Prim.Native.Nat.{ℕ, _+_, _*_, _≤_}
 use lib.ListN.{length}
 use lib.Seq.{sets}
 use lib.Dec.{leb, eqb}
+use Rattle.tables.specs.declared.Answer.{Answer}
+use Rattle.tables.specs.Answer.{Outcome, outcome}
 use Rattle.tables.specs.Tree.{mostMachines}
+use Rattle.tables.specs.Report.{bytesOf}
 use Rattle.sitefile.specs.Text.{uplinkLines, reportText, refusalText}
 use Rattle.sitefile.specs.Next.{laid}
 
--- what a call answers, and the buffer as it leaves it
-pub record Wrote : Type 0 where
-  pub answer : ℕ
-  pub buffer : List ℕ
-
-abbrev pub wrote : ℕ → List ℕ → Wrote
-wrote answer buffer = record { answer = answer; buffer = buffer }
-
 -- where there is room, the length of the text, and the text laid over the front of the buffer; else 0, and the buffer as it came
-abbrev pub written : Bool → List ℕ → List ℕ → Wrote
-written true text buffer = wrote (length text) (laid text buffer)
-written false text buffer = wrote 0 buffer
+abbrev pub written : Bool → List ℕ → List ℕ → Outcome ℕ (List ℕ)
+written true text buffer = outcome (length text) (laid text buffer)
+written false text buffer = outcome 0 buffer
 
 -- a refusal asks for 64 bytes of room
-unfoldable pub refusalWritten : ℕ → ℕ → List ℕ → Wrote
-refusalWritten code value buffer = written (leb 64 (length buffer)) (refusalText code value) buffer
+unfoldable pub refusalWritten : Answer → List ℕ → Outcome ℕ (List ℕ)
+refusalWritten refusal buffer = written (leb 64 (length buffer)) (refusalText refusal) buffer
 
 -- a report asks for 24 bytes a machine and 64 more, for at most 4,096 machines, and for a byte a machine in both outputs
 abbrev pub reportFits : ℕ → ℕ → ℕ → ℕ → Bool
 reportFits n machines links room = leb n mostMachines && (eqb machines n && (eqb links n && leb (24 * n + 64) room))
 
-unfoldable pub reportWritten : List ℕ → List ℕ → List ℕ → List ℕ → Wrote
+unfoldable pub reportWritten : List ℕ → List ℕ → List ℕ → List ℕ → Outcome ℕ (List ℕ)
 reportWritten up machines links buffer =
     written (reportFits (length up) (length machines) (length links) (length buffer))
-    (reportText up (record { machines = machines; links = links }))
+    (reportText up (bytesOf machines links))
     buffer
 
 -- an inner call wrote this text from this place on, and answers the place behind it

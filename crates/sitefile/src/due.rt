@@ -4,13 +4,15 @@ ghost use Rattle.sitefile.specs.Record.{known};
 ghost use Rattle.sitefile.specs.File.{grown, closed, inPlace, asked, dueOf};
 use crate::Reader;
 use crate::record;
+use tables::Answer;
+use tables::Fault;
 
 // What the file asks for next.
 pub enum Due {
     // The file ends as it may.
     End,
-    // The code and the value of a refusal.
-    Stop(u16, usize),
+    // A refusal.
+    Stop(Answer),
     // A record of each kind, known, in place and whole.
     Size,
     Uplink,
@@ -84,17 +86,17 @@ pub fn look(file: &[u8], r: Reader) -> Due
         if closed(r) {
             return Due::End;
         }
-        return Due::Stop(10, len);
+        return Due::Stop(checks::refusal(Fault::Cut, len));
     }
     let kind = file[place];
     if !known(kind) {
-        return Due::Stop(11, place);
+        return Due::Stop(checks::refusal(Fault::Unknown, place));
     }
     if !in_place(kind, r) {
-        return Due::Stop(12, place);
+        return Due::Stop(checks::refusal(Fault::Misplaced, place));
     }
     if len - place - 1 < record::body_len(kind) {
-        return Due::Stop(10, len);
+        return Due::Stop(checks::refusal(Fault::Cut, len));
     }
     asked(kind)
 }

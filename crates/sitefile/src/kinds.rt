@@ -3,30 +3,30 @@ ghost use mathlib.Core.Path.{_≡_};
 ghost use mathlib.Core.List.{List};
 ghost use Prim.Native.Nat.{ℕ, _+_, _≤_};
 ghost use lib.ListN.{length};
-ghost use Rattle.tables.specs.Lent.{tablesOf, outcome};
-ghost use Rattle.sitefile.specs.Next.{Room, roomOf, went};
+ghost use Rattle.tables.specs.Answer.{outcome};
+ghost use Rattle.tables.specs.Tables.{tablesOf};
+ghost use Rattle.sitefile.specs.Next.{Room, roomOf};
 ghost use Rattle.sitefile.specs.Reading.{leads, StartDue, startFront, UplinkDue, LinkDue, CloseDue, ReportDue};
 use crate::Reader;
 use crate::Step;
 use crate::due::Due;
 use crate::record;
-use site::Answer;
 use site::Site;
+use tables::Answer;
+use tables::Verdict;
 
 // Kind 1: the number of machines.
 pub fn size(file: &[u8], r: Reader) -> Step
     requires { ⌜ r .place + 3 ≤ length (now file) ⌝ }
-    ensures { λ s. ⌜ ((room : Room) → went s room ≡ leads (now (file .entry)) r Due.Size room) ⌝ }
+    ensures { λ s. ⌜ ((room : Room) → outcome s room ≡ leads (now (file .entry)) r Due.Size room) ⌝ }
 {
     let place = r.place;
     let body = record::body(file, place);
     let n = record::word(body, 0) as usize;
-    if n == 0 {
-        return Step::Refused(1, n);
-    }
-    if Site::MACHINES < n {
-        return Step::Refused(1, n);
-    }
+    let few = checks::size(n);
+    let Verdict::Sound = few else {
+        return Step::Refused(checks::answer(few, 0));
+    };
     Step::Read(Reader {
         place: place + 3,
         n,
@@ -38,7 +38,7 @@ pub fn size(file: &[u8], r: Reader) -> Step
 // Start over the front parts of the tables.
 fn start(up: &[u16], n: usize, depth: &mut [u16], group: &mut [u16], mark: &mut [u8]) -> Answer
     requires { ⌜ StartDue n (length (now up)) (length (now depth)) (length (now group)) (length (now mark)) ⌝ }
-    ensures { λ a. ⌜ outcome (a .code) (a .value) (tablesOf (now (depth .exit)) (now (group .exit)) (now (mark .exit)))
+    ensures { λ a. ⌜ outcome a (tablesOf (now (depth .exit)) (now (group .exit)) (now (mark .exit)))
         ≡ startFront n (now (up .entry)) (tablesOf (now (depth .entry)) (now (group .entry)) (now (mark .entry))) ⌝ }
 {
     Site::start(&up[..n], &mut depth[..n], &mut group[..n], &mut mark[..n])
@@ -54,7 +54,7 @@ pub fn uplink(
     mark: &mut [u8],
 ) -> Step
     requires { ⌜ UplinkDue (now file) r (length (now up)) (length (now depth)) (length (now group)) (length (now mark)) ⌝ }
-    ensures { λ s. ⌜ ((batch machines links : List ℕ) → went s (roomOf (now (up .exit)) (now (depth .exit)) (now (group .exit)) (now (mark .exit)) batch machines links)
+    ensures { λ s. ⌜ ((batch machines links : List ℕ) → outcome s (roomOf (now (up .exit)) (now (depth .exit)) (now (group .exit)) (now (mark .exit)) batch machines links)
         ≡ leads (now (file .entry)) r Due.Uplink (roomOf (now (up .entry)) (now (depth .entry)) (now (group .entry)) (now (mark .entry)) batch machines links)) ⌝ }
 {
     let place = r.place;
@@ -77,20 +77,21 @@ pub fn uplink(
         return Step::Read(next);
     }
     up[ups] = old;
-    Step::Refused(a.code, a.value)
+    Step::Refused(a)
 }
 
 // Kind 3: a link, kept until its batch is closed.
 pub fn link(file: &[u8], r: Reader, batch: &mut [u16]) -> Step
     requires { ⌜ LinkDue (now file) r (length (now batch)) ⌝ }
-    ensures { λ s. ⌜ ((up depth group mark machines links : List ℕ) → r .ups ≤ length up → went s (roomOf up depth group mark (now (batch .exit)) machines links)
+    ensures { λ s. ⌜ ((up depth group mark machines links : List ℕ) → r .ups ≤ length up → outcome s (roomOf up depth group mark (now (batch .exit)) machines links)
         ≡ leads (now (file .entry)) r Due.Link (roomOf up depth group mark (now (batch .entry)) machines links)) ⌝ }
 {
     let place = r.place;
     let opened = r.opened;
-    if 2 * Site::LINKS <= opened {
-        return Step::Refused(7, 2 * Site::LINKS + 2);
-    }
+    let most = checks::numbers(opened + 2);
+    let Verdict::Sound = most else {
+        return Step::Refused(checks::answer(most, 0));
+    };
     let body = record::body(file, place);
     batch[opened] = record::word(body, 0);
     batch[opened + 1] = record::word(body, 1);
@@ -112,7 +113,7 @@ pub fn close(
     batch: &[u16],
 ) -> Step
     requires { ⌜ CloseDue r (length (now up)) (length (now depth)) (length (now group)) (length (now mark)) (length (now batch)) ⌝ }
-    ensures { λ s. ⌜ ((bytes machines links : List ℕ) → went s (roomOf (now (up .entry)) (now (depth .exit)) (now (group .exit)) (now (mark .exit)) (now (batch .entry)) machines links)
+    ensures { λ s. ⌜ ((bytes machines links : List ℕ) → outcome s (roomOf (now (up .entry)) (now (depth .exit)) (now (group .exit)) (now (mark .exit)) (now (batch .entry)) machines links)
         ≡ leads bytes r Due.Close (roomOf (now (up .entry)) (now (depth .entry)) (now (group .entry)) (now (mark .entry)) (now (batch .entry)) machines links)) ⌝ }
 {
     let behind = r.place + 1;
@@ -133,7 +134,7 @@ pub fn close(
             opened: 0,
         });
     }
-    Step::Refused(a.code, a.value)
+    Step::Refused(a)
 }
 
 // Kind 5: a report, over the front parts of the tables and the outputs.
@@ -147,7 +148,7 @@ pub fn report(
     links: &mut [u8],
 ) -> Step
     requires { ⌜ ReportDue r (length (now up)) (length (now depth)) (length (now group)) (length (now mark)) (length (now machines)) (length (now links)) ⌝ }
-    ensures { λ s. ⌜ ((bytes batch : List ℕ) → went s (roomOf (now (up .entry)) (now (depth .entry)) (now (group .entry)) (now (mark .entry)) batch (now (machines .exit)) (now (links .exit)))
+    ensures { λ s. ⌜ ((bytes batch : List ℕ) → outcome s (roomOf (now (up .entry)) (now (depth .entry)) (now (group .entry)) (now (mark .entry)) batch (now (machines .exit)) (now (links .exit)))
         ≡ leads bytes r Due.Report (roomOf (now (up .entry)) (now (depth .entry)) (now (group .entry)) (now (mark .entry)) batch (now (machines .entry)) (now (links .entry)))) ⌝ }
 {
     let behind = r.place + 1;
@@ -168,5 +169,5 @@ pub fn report(
             opened: 0,
         });
     }
-    Step::Refused(a.code, a.value)
+    Step::Refused(a)
 }

@@ -6,6 +6,7 @@ pub mod record;
 pub mod text;
 
 use site::Site;
+use tables::Answer;
 
 // A site file has at most so many bytes.
 pub const MOST_BYTES: usize = 16384;
@@ -30,8 +31,8 @@ pub enum Step {
     Report(Reader),
     // The file ends as it may.
     End,
-    // The code and the value of a refusal.
-    Refused(u16, usize),
-    // The lent slices are not of the right lengths, or the reader is none that a file leads to.
+    // A refusal.
+    Refused(Answer),
+    // The reader is none that a file leads to.
     Unfit,
 }

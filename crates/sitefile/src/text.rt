@@ -1,14 +1,16 @@
 // The text of a refusal and of a report, written into a lent buffer. Each inner function writes from a place on, and answers the next.
 use site::Site;
+use tables::Answer;
 ghost use mathlib.Core.Path.{_≡_};
 ghost use mathlib.Core.Bool.{cond, not};
 ghost use mathlib.Core.List.{[], _∷_};
 ghost use Prim.Native.Nat.{_+_, _<_, _≤_};
 ghost use lib.ListN.{length};
 ghost use lib.Dec.{eqb};
-ghost use Rattle.tables.specs.Outcome.{named};
+ghost use Rattle.tables.specs.Answer.{outcome};
+ghost use Rattle.tables.specs.Report.{named};
 ghost use Rattle.sitefile.specs.Text.{decimal, line, lineFor, machineLines, uplinkLines};
-ghost use Rattle.sitefile.specs.Written.{Appends, Uplinks, wrote, refusalWritten, reportFits, reportWritten};
+ghost use Rattle.sitefile.specs.Written.{Appends, Uplinks, refusalWritten, reportFits, reportWritten};
 
 // One byte.
 fn put(out: &mut [u8], at: usize, byte: u8) -> usize
@@ -143,18 +145,18 @@ fn fits(n: usize, machines: usize, links: usize, room: usize) -> bool
 }
 
 // The text of a refusal over the front of a buffer of at least 64 bytes. Answers its length; else 0, and the buffer is not touched.
-pub fn refusal_text(code: u16, value: usize, out: &mut [u8]) -> usize
-    ensures { λ r. ⌜ wrote r (now (out .exit)) ≡ refusalWritten code value (now (out .entry)) ⌝ }
+pub fn refusal_text(refusal: Answer, out: &mut [u8]) -> usize
+    ensures { λ r. ⌜ outcome r (now (out .exit)) ≡ refusalWritten refusal (now (out .entry)) ⌝ }
 {
     if out.len() < 64 {
         return 0;
     }
-    line(out, 0, b'R', code as usize, value)
+    line(out, 0, b'R', refusal.code as usize, refusal.value)
 }
 
 // The text of a report over the front of a buffer with room for it. Answers its length; else 0, and the buffer is not touched.
 pub fn report_text(up: &[u16], machines: &[u8], links: &[u8], out: &mut [u8]) -> usize
-    ensures { λ r. ⌜ wrote r (now (out .exit)) ≡ reportWritten (now (up .entry)) (now (machines .entry)) (now (links .entry)) (now (out .entry)) ⌝ }
+    ensures { λ r. ⌜ outcome r (now (out .exit)) ≡ reportWritten (now (up .entry)) (now (machines .entry)) (now (links .entry)) (now (out .entry)) ⌝ }
 {
     if !fits(up.len(), machines.len(), links.len(), out.len()) {
         return 0;

@@ -4,22 +4,23 @@ use mathlib.Core.List.{List, [], _∷_, _++_, append-nil, append-assoc}
 use Prim.Native.Nat.{ℕ, _+_, _-_, _*_, _%_}
 use native.Mathlib.Omega.{arith}
 use lib.ListN.{length}
-use borrow.Author.Tests.{eq-eqb}
 use Rattle.plain.specs.Table.{total}
 use Rattle.graph.specs.Cable.{Cables}
-use Rattle.plain.proofs.Says.{says-lt, says-le, says-eq, says-and}
+use Rattle.plain.proofs.Says.{says-le, says-eq, says-and}
 use Rattle.plain.proofs.Tabulate.{length-tabulate}
 use Rattle.tables.specs.Verdict.{Sound, checks}
+use Rattle.tables.specs.Answer.{judged}
 use Rattle.tables.specs.Tree.{depthOf, sizeVerdict}
-use Rattle.tables.specs.Tables.{fresh, tableSizes}
+use Rattle.tables.specs.Tables.{fresh, lengthsVerdict}
 use Rattle.tables.specs.Batch.{pairs, lengthVerdict, batchVerdict, after, rise}
 use Rattle.tables.specs.Links.{AllGood, Stands, tablesWith}
 use Rattle.tables.specs.History.{History, links, leaves}
-use Rattle.tables.specs.Rules.{rulesVerdict}
-use Rattle.tables.specs.Outcome.{answer, startVerdict, startOf, addVerdict, addOf}
+use Rattle.tables.specs.Rules.{rulesVerdict, tablesVerdict}
+use Rattle.tables.specs.Outcome.{startVerdict, startOf, addVerdict, addOf}
 use Rattle.tables.specs.Demand1.{SoundTree}
 use Rattle.tables.specs.Calls.{Adds, CallsLive, Limits}
 use Rattle.tables.proofs.Verdicts.{checks-one, unless-sound}
+use Rattle.tables.proofs.Lengths.{size-exact, sizes-exact}
 use Rattle.tables.proofs.Sound.{sound-tree}
 use Rattle.tables.proofs.Links.{after-append, network, told}
 use Rattle.tables.proofs.Histories.{only-links}
@@ -30,19 +31,20 @@ module _ {up : List ℕ} {l : Cables} (s : SoundTree up) (g : AllGood (length up
   pub rules-met : rulesVerdict up (tablesWith up l) ≡ Sound
   rules-met = kept-sound up (tablesWith up l) (told-kept s (network s g) (told s g))
 
-  pub sizes-met : checks (tableSizes up (tablesWith up l)) ≡ Sound
-  unfolding checks tableSizes
-  sizes-met =
-      let t = tablesWith up l in
+  pub lengths-met : sizeVerdict (length up) ≡ Sound → lengthsVerdict up (tablesWith up l) ≡ Sound
+  lengths-met e =
       let k = told s g in
-      rw (
-        eq-eqb (length (t .depth)) (length up) (ap length (k .depths) ∙ length-tabulate (length up) (depthOf up)),
-        eq-eqb (length (t .group)) (length up) (k .named .size),
-        eq-eqb (length (t .mark)) (length up) (k .marked .size),
-      )
+      let (one, most) = size-exact (length up) .0 e in
+      sizes-exact _ _ _ _ .1 (record {
+        some = one;
+        few = most;
+        depth-size = ap length (k .depths) ∙ length-tabulate (length up) (depthOf up);
+        group-size = k .named .size;
+        mark-size = k .marked .size;
+      })
 
 adds : (up : List ℕ) (l : Cables) → Stands up l → (batch : List ℕ) → Adds up batch (tablesWith up l) (tablesWith up (l ++ pairs batch))
-unfolding answer addOf addVerdict checks
+unfolding judged addVerdict addOf tablesVerdict checks
 adds up l st batch =
     let t = tablesWith up l in
     let t′ = after up (pairs batch) t in
@@ -50,8 +52,8 @@ adds up l st batch =
     let rose : rise t t′ + total (t .mark) ≡ total (t′ .mark) = rise-is up (pairs batch) t (told s (st .good) .marked .size) in
     let e : rise t t′ ≡ total (t′ .mark) - total (t .mark) = omega arith in
     rw (after-append up l (pairs batch) (fresh up)) (record {
-      add = rw (st .size, sizes-met s (st .good), st .tree, rules-met s (st .good), e)
-          (ap (λ v. answer v t (total (t′ .mark) - total (t .mark)) t′) (checks-one (batchVerdict (length up) batch)));
+      add = rw (lengths-met s (st .good) (st .size), st .tree, rules-met s (st .good), e)
+          (ap (λ v. judged v t (total (t′ .mark) - total (t .mark)) t′) (checks-one (batchVerdict (length up) batch)));
       rises = omega arith;
     })
 
@@ -61,16 +63,16 @@ links-append [] batch = append-nil (pairs batch)
 links-append (b ∷ h) batch = ap (λ l. pairs b ++ l) (links-append h batch) ∙ sym (append-assoc (pairs b) (links h) (pairs batch))
 
 pub calls-live : CallsLive
-unfolding startOf startVerdict checks answer leaves
+unfolding startVerdict startOf checks judged leaves
 calls-live = record {
-  start = λ up t l e. rw (l .size, e, l .tree);
+  start = λ up t l e. rw (e, l .tree);
   after-batches = λ up h l batch. rw (only-links .leave up h, only-links .leave up (h ++ (batch ∷ [])), links-append h batch) (adds up (links h) (only-links .stand up h l) batch);
   with-links = adds;
 }
 
 pub limits : Limits
-unfolding sizeVerdict lengthVerdict
+unfolding lengthVerdict
 limits = record {
-  machines = λ n. let t = says-and (says-lt 0 n) (says-le n 4096) in (λ e. t .gives (unless-sound _ _ _ e), λ k. rw (t .takes k));
-  links = λ b. let t = says-and (says-eq (length b % 2) 0) (says-le (length b) (2 * 1024)) in (λ e. t .gives (unless-sound _ _ _ e), λ k. rw (t .takes k));
+  machines = size-exact;
+  links = λ k. let t = says-and (says-eq (k % 2) 0) (says-le k (2 * 1024)) in (λ e. t .gives (unless-sound _ _ _ e), λ s. rw (t .takes s));
 }

@@ -22,6 +22,10 @@ numbered Fault.Rule e = omega arith
 numbered Fault.Length e = omega arith
 numbered Fault.End e = omega arith
 numbered Fault.Loop e = omega arith
+numbered Fault.Cut e = omega arith
+numbered Fault.Unknown e = omega arith
+numbered Fault.Misplaced e = omega arith
+numbered Fault.Long e = omega arith
 
 ends-avoid : (n i : ℕ) (l : Cables) → Avoids 6 (endsVerdict n i l)
 unfolding endsVerdict

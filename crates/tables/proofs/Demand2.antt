@@ -5,7 +5,6 @@ use mathlib.Core.List.{List, _++_}
 use mathlib.Core.Logic.{Iff·rfl, Iff·symm, Iff·trans, Iff·and}
 use Prim.Native.Nat.{ℕ}
 use lib.ListN.{length}
-use borrow.Author.Tests.{eqb-true}
 use Rattle.plain.proofs.Tabulate.{at-tabulate}
 use Rattle.graph.specs.Cable.{Cables}
 use Rattle.graph.proofs.Walks.{map}
@@ -13,22 +12,24 @@ use Rattle.graph.proofs.Cables.{flip, linked?}
 use Rattle.graph.proofs.Members.{on-right, here}
 use Rattle.rings.proofs.Crossing.{tree-joins}
 use Rattle.tables.specs.Verdict.{Verdict, Sound, Refused}
+use Rattle.tables.specs.Answer.{judged}
 use Rattle.tables.specs.Tree.{hub}
-use Rattle.tables.specs.Tables.{Tables, tableSizes}
+use Rattle.tables.specs.Tables.{Tables}
 use Rattle.tables.specs.Links.{Stands, tablesWith}
-use Rattle.tables.specs.Report.{machineByte, linkByte, machineBytes, linkBytes}
-use Rattle.tables.specs.Outcome.{answer, Bytes, reportVerdict, reportOf}
+use Rattle.tables.specs.Report.{Bytes, machineByte, linkByte, machineBytes, linkBytes}
+use Rattle.tables.specs.Outcome.{outputsVerdict, reportVerdict, reportOf}
 use Rattle.tables.specs.Demand1.{SoundTree}
 use Rattle.tables.specs.Demand2.{Reported, CrossSpare, ChokesNamed, Relied, Demand2}
-use Rattle.tables.proofs.Verdicts.{all-sound, sound-all, unless-sound}
+use Rattle.tables.proofs.Verdicts.{all-sound, sound-all}
 use Rattle.tables.proofs.Codes.{numbered}
+use Rattle.tables.proofs.Lengths.{sized-is}
 use Rattle.tables.proofs.Sound.{sound-tree, rooted}
 use Rattle.tables.proofs.Links.{network, told}
 use Rattle.tables.proofs.Histories.{only-links}
 use Rattle.tables.proofs.Reports.{machine-bytes, hub-byte, link-bytes, never-three}
 use Rattle.tables.proofs.Cabling.{linked-cabled, machine-cabled, uplink-cabled}
-use Rattle.tables.proofs.Calls.{rules-met, sizes-met}
-use Rattle.tables.proofs.Demand1.{rules-links, site-of, report-came}
+use Rattle.tables.proofs.Calls.{rules-met, lengths-met}
+use Rattle.tables.proofs.Demand1.{site-of, report-came}
 
 module _ {up : List ℕ} {l : Cables} (st : Stands up l) where
   abbrev t : Tables
@@ -39,10 +40,10 @@ module _ {up : List ℕ} {l : Cables} (st : Stands up l) where
 
   module _ (o : Bytes) (a : length (o .machines) ≡ length up) (b : length (o .links) ≡ length up) where
     report-done : reportVerdict up t o ≡ Sound
-    report-done = report-came up t (st .size) (st .tree) (sizes-met s (st .good)) o a b ∙ sound-all _ (rules-met s (st .good), tt)
+    report-done = report-came up t (lengths-met s (st .good) (st .size)) (st .tree) o a b ∙ sound-all _ (rules-met s (st .good), tt)
 
     reports : Reported up l (reportOf up t o)
-    unfolding answer reportOf machineBytes linkBytes
+    unfolding judged reportOf machineBytes linkBytes
     reports =
         let N = network s (st .good) in
         let d = linked? l in
@@ -65,20 +66,20 @@ module _ {up : List ℕ} {l : Cables} (st : Stands up l) where
 
 module _ {A : Type 0} (came : A) (value : ℕ) (done : A) where
   -- code 0: every check has passed
-  zero-sound : (v : Verdict) → answer v came value done .code ≡ 0 → v ≡ Sound
-  unfolding answer
+  zero-sound : (v : Verdict) → judged v came value done .answer .code ≡ 0 → v ≡ Sound
+  unfolding judged
   zero-sound Sound e = refl
   zero-sound (Refused why place) e = absurd (numbered why e)
 
-code-zero : (up : List ℕ) (t : Tables) (o : Bytes) → reportOf up t o .code ≡ 0 → Relied up t (reportOf up t o)
-unfolding reportOf reportVerdict tableSizes
+code-zero : (up : List ℕ) (t : Tables) (o : Bytes) → reportOf up t o .answer .code ≡ 0 → Relied up t (reportOf up t o)
+unfolding reportVerdict reportOf outputsVerdict
 code-zero up t o e =
-    let (size, (slices, (tree, (rules, _)))) = all-sound _ (zero-sound _ _ _ (reportVerdict up t o) e) in
-    let (d, (g, (m, (x, (y, _))))) = all-sound _ slices in
+    let (lengths, (outputs, (tables, _))) = all-sound _ (zero-sound _ _ _ (reportVerdict up t o) e) in
+    let (x, (y, _)) = all-sound _ outputs in
     record {
-      site = site-of up t size tree (sound-all (tableSizes up t) (d, (g, (m, tt)))) rules;
+      site = site-of up t lengths tables;
       reported = λ k. subst (λ u. Reported up (k .links) (reportOf up u o)) (k .left)
-          (reports (k .stands) o (eqb-true _ _ (unless-sound _ _ _ x)) (eqb-true _ _ (unless-sound _ _ _ y)));
+          (reports (k .stands) o (sized-is 4 x) (sized-is 5 y));
     }
 
 pub demand2 : Demand2
@@ -87,8 +88,9 @@ demand2 = record {
   after-batches = λ up h l. rw (only-links .leave up h) (chokes-named (only-links .stand up h l));
   with-links = λ up l. chokes-named;
   code-zero = code-zero;
-  never-three = λ up t e z r w h.
-      let (l, g, q) = rules-links up t e z r in
-      let s = sound-tree up e in
-      rw (at-tabulate (length up) (machineByte (hub up) up (t .group) (t .mark)) w h, ← q) (never-three (network s g) (linked? l) (told s g) w h);
+  never-three = λ up t z v w h.
+      let k = site-of up t z v in
+      let s = sound-tree up (k .stands .tree) in
+      rw (at-tabulate (length up) (machineByte (hub up) up (t .group) (t .mark)) w h, ← k .left)
+      (never-three (network s (k .stands .good)) (linked? (k .links)) (told s (k .stands .good)) w h);
 }

@@ -22,7 +22,8 @@ use Rattle.rings.proofs.Crossing.{tree-joins}
 use Rattle.tables.specs.AsTree.{treeOf}
 use Rattle.tables.specs.Links.{Stands}
 use Rattle.tables.specs.History.{links}
-use Rattle.tables.specs.Outcome.{Answer, Bytes}
+use Rattle.tables.specs.Answer.{Answer, Outcome}
+use Rattle.tables.specs.Report.{Bytes}
 use Rattle.tables.specs.Cables.{uplinks, cables, ChokeMachine, ChokeUplink, ChokeEnds}
 use Rattle.tables.specs.Demand1.{SoundTree}
 use Rattle.tables.specs.Demand2.{Reported}
@@ -86,7 +87,7 @@ module _ {up : List ℕ} (s : SoundTree up) (l : Cables) where
       c .choke .other (s .only v (c .choke .machine) z)
 
 -- what a report names are the choke uplinks' ends
-named-ends : {up : List ℕ} {l : Cables} {r : Answer Bytes} → Reported up l r → (a b : ℕ) → NamedEnds up r a b ↔ ChokeEnds up l a b
+named-ends : {up : List ℕ} {l : Cables} {r : Outcome Answer Bytes} → Reported up l r → (a b : ℕ) → NamedEnds up r a b ↔ ChokeEnds up l a b
 named-ends q a b = (
   λ n. record { lower = n .lower; choke = q .uplinks (n .lower) (n .machine) .0 (n .byte); ends = n .ends },
   λ c. record { lower = c .lower; machine = c .choke .machine; byte = q .uplinks (c .lower) (c .choke .machine) .1 (c .choke); ends = c .ends },

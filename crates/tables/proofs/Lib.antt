@@ -1,4 +1,5 @@
 pub mod Verdicts
+pub mod Lengths
 pub mod Climb
 pub mod Sound
 pub mod Lines

@@ -17,7 +17,7 @@ use Rattle.tables.specs.Verdict.{Fault, Sound, Refused}
 use Rattle.tables.specs.Tree.{climb, hub, Inside, Reaches, depthOf, treeVerdict}
 use Rattle.tables.specs.AsTree.{treeOf}
 use Rattle.tables.specs.Demand1.{SoundTree, TreesExact}
-use Rattle.tables.proofs.Verdicts.{all-sound, sound-all, checks-one, least-avoids, unless-avoids, later, unless-sound, none-refused, refuse-none, refused-at}
+use Rattle.tables.proofs.Verdicts.{all-sound, sound-all, checks-one, least-avoids, unless-avoids, checks-avoid, later, unless-sound, none-refused, refuse-none, refused-at}
 use Rattle.tables.proofs.Climb.{arrives, reaches-soon, soon-reaches}
 
 second? : (up : List ℕ) (v : ℕ) → Says (ltb (hub up) v && eqb (at up v) v) ((hub up < v) × (at up v ≡ v))
@@ -27,17 +27,18 @@ pub sound-tree : (up : List ℕ) → treeVerdict up ≡ Sound → SoundTree up
 unfolding treeVerdict hub
 sound-tree up e =
     let n = length up in
-    let a = all-sound _ e in
-    let h : hub up < n = ltb-true (hub up) n (unless-sound _ _ _ (a .1 .0)) in
+    let (entries, (hubs, (reach, _))) = all-sound _ e in
+    let (first, (second, _)) = all-sound _ hubs in
+    let h : hub up < n = ltb-true (hub up) n (unless-sound _ _ _ first) in
     let l = least-has n (λ v. eqb (at up v) v) in
     record {
-      inside = λ v k. leb-false n (at up v) (none-refused _ _ _ (a .0) v k);
+      inside = λ v k. leb-false n (at up v) (none-refused _ _ _ entries v k);
       hub-in = h;
       hub-self = eqb-true (at up (hub up)) (hub up) (l .here h);
       only = λ v k s. dite (ℕ-discrete v (hub up)) (λ r. r) λ o. dite (decLt v (hub up))
           (λ b. clash (eq-eqb (at up v) v s) (l .before v b))
-          (λ b. absurd (refuted (second? up v) (none-refused _ _ _ (a .1 .1 .0) v k) (omega arith, s)));
-      reaches = λ v k. soon-reaches up v (leb-false n (depthOf up v) (none-refused _ _ _ (a .1 .1 .1 .0) v k));
+          (λ b. absurd (refuted (second? up v) (none-refused _ _ _ second v k) (omega arith, s)));
+      reaches = λ v k. soon-reaches up v (leb-false n (depthOf up v) (none-refused _ _ _ reach v k));
     }
 
 module _ {up : List ℕ} (s : SoundTree up) where
@@ -71,7 +72,10 @@ module _ {up : List ℕ} (s : SoundTree up) where
       let lone : (v : ℕ) → v < n → (ltb (hub up) v && eqb (at up v) v) ≡ false = λ v h. refutes (second? up v) (λ k. omega (arith, k .0, s .only v h (k .1))) in
       sound-all _ (
         refuse-none _ _ _ (λ v h. lt-leb n (at up v) (s .inside v h)),
-        (rw (lt-ltb (hub up) n (s .hub-in)) refl, (refuse-none _ _ _ lone, (refuse-none _ _ _ (λ v h. lt-leb n (depthOf up v) (soon v h)), tt))),
+        (
+          sound-all _ (rw (lt-ltb (hub up) n (s .hub-in)) refl, (refuse-none _ _ _ lone, tt)),
+          (refuse-none _ _ _ (λ v h. lt-leb n (depthOf up v) (soon v h)), tt),
+        ),
       )
 
 never : (up : List ℕ) (v : ℕ) → treeVerdict up ≡ Refused Fault.Stray v → (v < length up) × (¬ Reaches up v) × ((u : ℕ) → u < v → Reaches up u)
@@ -79,9 +83,8 @@ unfolding treeVerdict
 never up v e₀ =
     let n = length up in
     let (a, e₁) = later _ (least-avoids _ _ _ (omega arith)) e₀ in
-    let (_, e₂) = later _ (unless-avoids (ltb (hub up) n) Fault.Hubs n (omega arith)) e₁ in
-    let (_, e₃) = later _ (least-avoids _ _ _ (omega arith)) e₂ in
-    let r = refused-at Fault.Stray n (λ v. leb n (depthOf up v)) (sym (checks-one _) ∙ e₃) in
+    let (_, e₂) = later _ (checks-avoid _ (unless-avoids (ltb (hub up) n) Fault.Hubs n (omega arith), (least-avoids _ _ _ (omega arith), tt))) e₁ in
+    let r = refused-at Fault.Stray n (λ v. leb n (depthOf up v)) (sym (checks-one _) ∙ e₂) in
     let w : Inside up = λ v h. leb-false n (at up v) (none-refused _ _ _ a v h) in (
       r .machine,
       λ t. omega (arith, leb-true n (depthOf up v) (r .fails), reaches-soon up v w (r .machine) t),

@@ -6,26 +6,27 @@ use Prim.Native.Nat.{ℕ, _*_, _-_, _%_, _≤_}
 use lib.ListN.{length}
 use Rattle.plain.specs.Table.{total}
 use Rattle.graph.specs.Cable.{Cables}
-use Rattle.tables.specs.Verdict.{Sound, checks}
+use Rattle.tables.specs.Verdict.{Sound}
+use Rattle.tables.specs.Answer.{done, outcome, judged}
 use Rattle.tables.specs.Tree.{sizeVerdict}
-use Rattle.tables.specs.Tables.{Tables, tableSizes}
+use Rattle.tables.specs.Tables.{Tables, lengthsVerdict}
 use Rattle.tables.specs.Batch.{pairs, lengthVerdict, batchVerdict}
 use Rattle.tables.specs.Links.{Stands, tablesWith}
 use Rattle.tables.specs.History.{History, Lived, tables}
-use Rattle.tables.specs.Outcome.{answer, startOf, addOf}
+use Rattle.tables.specs.Outcome.{startOf, addOf}
 
 -- over t Add is refused only where the batch is, leaves t′, and its value is what the marks, added up, rose by
 pub record Adds (up batch : List ℕ) (t t′ : Tables) : Type 0 where
-  pub add : addOf up batch t ≡ answer (batchVerdict (length up) batch) t (total (t′ .mark) - total (t .mark)) t′
+  pub add : addOf up batch t ≡ judged (batchVerdict (length up) batch) t (total (t′ .mark) - total (t .mark)) t′
   pub rises : total (t .mark) ≤ total (t′ .mark)
 
 -- from nothing to the empty history, from a history to the longer one, and from links to these with those of the batch
 pub record CallsLive : Type 0 where
-  pub start : (up : List ℕ) (t : Tables) → Lived up [] → checks (tableSizes up t) ≡ Sound → startOf up t ≡ record { code = 0; value = length up; lent = tables up [] }
+  pub start : (up : List ℕ) (t : Tables) → Lived up [] → lengthsVerdict up t ≡ Sound → startOf up t ≡ outcome (done (length up)) (tables up [])
   pub after-batches : (up : List ℕ) (h : History) → Lived up h → (batch : List ℕ) → Adds up batch (tables up h) (tables up (h ++ (batch ∷ [])))
   pub with-links : (up : List ℕ) (l : Cables) → Stands up l → (batch : List ℕ) → Adds up batch (tablesWith up l) (tablesWith up (l ++ pairs batch))
 
 -- 1 to 4,096 machines; an even number of numbers, at most 2,048.
 pub record Limits : Type 0 where
   pub machines : (n : ℕ) → (sizeVerdict n ≡ Sound) ↔ ((1 ≤ n) × (n ≤ 4096))
-  pub links : (batch : List ℕ) → (lengthVerdict batch ≡ Sound) ↔ ((length batch % 2 ≡ 0) × (length batch ≤ 2 * 1024))
+  pub links : (k : ℕ) → (lengthVerdict k ≡ Sound) ↔ ((k % 2 ≡ 0) × (k ≤ 2 * 1024))

@@ -7,12 +7,13 @@ use mathlib.Core.Logic.{_≢_, _↔_}
 use Prim.Native.Nat.{ℕ, _<_}
 use lib.ListN.{length}
 use Rattle.plain.specs.Table.{at}
-use Rattle.tables.specs.Verdict.{Fault, Sound, Refused, checks}
-use Rattle.tables.specs.Tree.{hub, Inside, Reaches, sizeVerdict, treeVerdict}
-use Rattle.tables.specs.Tables.{Tables, tableSizes}
+use Rattle.tables.specs.Verdict.{Fault, Sound, Refused}
+use Rattle.tables.specs.Tree.{hub, Inside, Reaches, treeVerdict}
+use Rattle.tables.specs.Tables.{Tables, lengthsVerdict}
 use Rattle.tables.specs.History.{Left}
 use Rattle.tables.specs.Rules.{breaks, rulesVerdict}
-use Rattle.tables.specs.Outcome.{Bytes, startOf, addOf, reportOf}
+use Rattle.tables.specs.Report.{Bytes}
+use Rattle.tables.specs.Outcome.{startOf, addOf, reportOf}
 
 -- a sound tree: every entry a machine, one hub, and every machine reaches it
 pub record SoundTree (up : List ℕ) : Type 0 where
@@ -30,17 +31,17 @@ pub record TreesExact : Type 0 where
 -- over a sound tree, tables of the right lengths are refused with 6 exactly where no history leaves them, with the least machine breaking a rule
 pub record TablesExact (up : List ℕ) (t : Tables) : Type 0 where
   pub kept : (rulesVerdict up t ≡ Sound) ↔ Left up t
-  pub add-refused : (batch : List ℕ) → (addOf up batch t .code ≡ 6) ↔ (¬ Left up t)
-  pub report-refused : (o : Bytes) → length (o .machines) ≡ length up → length (o .links) ≡ length up → (reportOf up t o .code ≡ 6) ↔ (¬ Left up t)
+  pub add-refused : (batch : List ℕ) → (addOf up batch t .answer .code ≡ 6) ↔ (¬ Left up t)
+  pub report-refused : (o : Bytes) → length (o .machines) ≡ length up → length (o .links) ≡ length up → (reportOf up t o .answer .code ≡ 6) ↔ (¬ Left up t)
   pub place : (v : ℕ) → rulesVerdict up t ≡ Refused Fault.Rule v → (v < length up) × (breaks up t v ≡ true) × ((u : ℕ) → u < v → breaks up t u ≡ false)
 
 -- on a refusal every lent slice is untouched
 pub record Untouched : Type 0 where
-  pub start : (up : List ℕ) (t : Tables) → startOf up t .code ≢ 0 → startOf up t .lent ≡ t
-  pub add : (up batch : List ℕ) (t : Tables) → addOf up batch t .code ≢ 0 → addOf up batch t .lent ≡ t
-  pub report : (up : List ℕ) (t : Tables) (o : Bytes) → reportOf up t o .code ≢ 0 → reportOf up t o .lent ≡ o
+  pub start : (up : List ℕ) (t : Tables) → startOf up t .answer .code ≢ 0 → startOf up t .lent ≡ t
+  pub add : (up batch : List ℕ) (t : Tables) → addOf up batch t .answer .code ≢ 0 → addOf up batch t .lent ≡ t
+  pub report : (up : List ℕ) (t : Tables) (o : Bytes) → reportOf up t o .answer .code ≢ 0 → reportOf up t o .lent ≡ o
 
 pub record Demand1 : Type 0 where
   pub trees : TreesExact
-  pub tables-exact : (up : List ℕ) (t : Tables) → sizeVerdict (length up) ≡ Sound → treeVerdict up ≡ Sound → checks (tableSizes up t) ≡ Sound → TablesExact up t
+  pub tables-exact : (up : List ℕ) (t : Tables) → lengthsVerdict up t ≡ Sound → treeVerdict up ≡ Sound → TablesExact up t
   pub untouched : Untouched

@@ -11,7 +11,8 @@ use Rattle.graph.specs.Path.{TwoPaths}
 use Rattle.graph.specs.Renumbering.{OneToOne, KeepsCables}
 use Rattle.tables.specs.Links.{Stands}
 use Rattle.tables.specs.History.{History, Lived, links}
-use Rattle.tables.specs.Outcome.{Answer, Bytes}
+use Rattle.tables.specs.Answer.{Answer, Outcome}
+use Rattle.tables.specs.Report.{Bytes}
 use Rattle.tables.specs.Cables.{cables, ChokeMachine, ChokeEnds}
 use Rattle.tables.specs.Demand2.{Reported}
 
@@ -22,14 +23,14 @@ pub record Renumbered (up : List ℕ) (links : Cables) (up′ : List ℕ) (links
   pub keeps : KeepsCables (length up) f (cables up links) (cables up′ links′)
 
 -- a and b are the two ends of an uplink that the report names, either way round
-pub record NamedEnds (up : List ℕ) (r : Answer Bytes) (a b : ℕ) : Type 0 where
+pub record NamedEnds (up : List ℕ) (r : Outcome Answer Bytes) (a b : ℕ) : Type 0 where
   pub lower : ℕ
   pub machine : lower < length up
   pub byte : at (r .lent .links) lower ≡ 1
   pub ends : ((a ≡ lower) × (b ≡ at up lower)) ⊎ ((b ≡ lower) × (a ≡ at up lower))
 
 -- reports go onto each other: machines as machines, uplinks as the pairs that they join
-pub record ReportsCarried (up up′ : List ℕ) (f : ℕ → ℕ) (r r′ : Answer Bytes) : Type 0 where
+pub record ReportsCarried (up up′ : List ℕ) (f : ℕ → ℕ) (r r′ : Outcome Answer Bytes) : Type 0 where
   pub machines : (w : ℕ) → w < length up → (at (r .lent .machines) w ≢ 0) ↔ (at (r′ .lent .machines) (f w) ≢ 0)
   pub uplinks : (a b : ℕ) → a < length up → b < length up → NamedEnds up r a b ↔ NamedEnds up′ r′ (f a) (f b)
 
@@ -37,11 +38,11 @@ pub record ReportsCarried (up up′ : List ℕ) (f : ℕ → ℕ) (r r′ : Answ
 pub record Carried (up : List ℕ) (links : Cables) (up′ : List ℕ) (links′ : Cables) (f : ℕ → ℕ) : Type 0 where
   pub machines : (w : ℕ) → w < length up → ChokeMachine up links w ↔ ChokeMachine up′ links′ (f w)
   pub uplinks : (a b : ℕ) → a < length up → b < length up → ChokeEnds up links a b ↔ ChokeEnds up′ links′ (f a) (f b)
-  pub reports : (r r′ : Answer Bytes) → Reported up links r → Reported up′ links′ r′ → ReportsCarried up up′ f r r′
+  pub reports : (r r′ : Outcome Answer Bytes) → Reported up links r → Reported up′ links′ r′ → ReportsCarried up up′ f r r′
 
 -- where a report on three machines or more names no machine, any two have two different paths that share only their ends
 abbrev pub TwoWays : List ℕ → Cables → Type 0
-TwoWays up links = 3 ≤ length up → (r : Answer Bytes) → Reported up links r → ((w : ℕ) → w < length up → at (r .lent .machines) w ≡ 0)
+TwoWays up links = 3 ≤ length up → (r : Outcome Answer Bytes) → Reported up links r → ((w : ℕ) → w < length up → at (r .lent .machines) w ≡ 0)
     → (u v : ℕ) → u < length up → v < length up → u ≢ v → TwoPaths (Linked (cables up links)) u v
 
 pub record Demand3 : Type 0 where

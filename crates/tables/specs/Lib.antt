@@ -1,4 +1,5 @@
 pub mod Verdict
+pub mod Answer
 pub mod Tree
 pub mod Tables
 pub mod Link
@@ -8,7 +9,6 @@ pub mod History
 pub mod Rules
 pub mod Report
 pub mod Outcome
-pub mod Lent
 pub mod Cables
 pub mod AsTree
 pub mod Laws

@@ -56,7 +56,19 @@ machineByte h up group mark w =
 abbrev pub linkByte : ℕ → List ℕ → ℕ → ℕ
 linkByte h mark v = cond (not (eqb v h) && eqb (at mark v) 0) 1 0
 
--- all of them, in number order
+-- how many bytes are not 0
+unfoldable pub named : List ℕ → ℕ
+named bytes = count (length bytes) (λ w. not (eqb (at bytes w) 0))
+
+-- the report's two outputs
+pub record Bytes : Type 0 where
+  pub machines : List ℕ
+  pub links : List ℕ
+
+abbrev pub bytesOf : List ℕ → List ℕ → Bytes
+bytesOf machines links = record { machines = machines; links = links }
+
+-- all bytes, in number order
 unfoldable pub machineBytes : List ℕ → Tables → List ℕ
 machineBytes up t = tabulate (length up) (machineByte (hub up) up (t .group) (t .mark))
 

@@ -1,12 +1,12 @@
 -- The rules behind code 6, each charged to machine v, and the least machine that breaks one. Each takes what it reads; h is the hub.
 use mathlib.Core.Bool.{Bool, cond, _&&_, _||_, not}
-use mathlib.Core.List.{List}
+use mathlib.Core.List.{List, [], _∷_}
 use Prim.Native.Nat.{ℕ, suc}
 use lib.ListN.{length}
 use lib.Dec.{leb, ltb, eqb}
 use Rattle.plain.specs.Table.{at}
-use Rattle.tables.specs.Verdict.{Fault, Verdict, refuseLeast}
-use Rattle.tables.specs.Tree.{hub}
+use Rattle.tables.specs.Verdict.{Fault, Verdict, checks, refuseLeast}
+use Rattle.tables.specs.Tree.{hub, treeVerdict}
 use Rattle.tables.specs.Tables.{Tables}
 
 -- depth is 0 at the hub, else one more than that of up[v]
@@ -50,3 +50,7 @@ breaks up t v = not (keeps (hub up) up t v)
 -- code 6: no history leaves these tables (that it is given just then is demand 1)
 unfoldable pub rulesVerdict : List ℕ → Tables → Verdict
 rulesVerdict up t = refuseLeast Fault.Rule (length up) (breaks up t)
+
+-- 3 to 6
+unfoldable pub tablesVerdict : List ℕ → Tables → Verdict
+tablesVerdict up t = checks (treeVerdict up ∷ rulesVerdict up t ∷ [])

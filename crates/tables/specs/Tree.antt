@@ -38,11 +38,25 @@ depthOf up v = least (length up) (λ k. eqb (climb up k v) (hub up))
 unfoldable pub sizeVerdict : ℕ → Verdict
 sizeVerdict n = unless (ltb 0 n && leb n mostMachines) Fault.Size n
 
--- 3: an up entry is n or more; 4: hubs are not exactly one; 5: a machine never reaches the hub
-unfoldable pub treeVerdict : List ℕ → Verdict
-treeVerdict up =
-    checks (refuseLeast Fault.Entry (length up) (λ v. leb (length up) (at up v))
-    ∷ unless (ltb (hub up) (length up)) Fault.Hubs (length up)
+-- 3: an up entry is n or more
+abbrev pub entriesVerdict : List ℕ → Verdict
+entriesVerdict up = refuseLeast Fault.Entry (length up) (λ v. leb (length up) (at up v))
+
+-- 4: hubs are not exactly one: there is none, or one behind the first
+abbrev pub hubsVerdict : List ℕ → Verdict
+hubsVerdict up =
+    checks (unless (ltb (hub up) (length up)) Fault.Hubs (length up)
     ∷ refuseLeast Fault.Hubs (length up) (λ v. ltb (hub up) v && eqb (at up v) v)
-    ∷ refuseLeast Fault.Stray (length up) (λ v. leb (length up) (depthOf up v))
     ∷ [])
+
+-- 5: a machine never reaches the hub
+abbrev pub reachVerdict : List ℕ → Verdict
+reachVerdict up = refuseLeast Fault.Stray (length up) (λ v. leb (length up) (depthOf up v))
+
+-- 3 to 5
+unfoldable pub treeVerdict : List ℕ → Verdict
+treeVerdict up = checks (entriesVerdict up ∷ hubsVerdict up ∷ reachVerdict up ∷ [])
+
+-- a tree by itself: 1 and 3 to 5
+unfoldable pub aloneVerdict : List ℕ → Verdict
+aloneVerdict up = checks (sizeVerdict (length up) ∷ treeVerdict up ∷ [])

@@ -1,15 +1,15 @@
--- What a check says, and checks in their order.
+-- Why something is refused, what a check says, and checks in their order.
 use mathlib.Core.Bool.{Bool, cond}
 use mathlib.Core.List.{List, [], _∷_}
 use Prim.Native.Nat.{ℕ}
 use lib.Dec.{ltb}
 use Rattle.plain.specs.Search.{least}
--- the code's own types: all is well, or refused with why and where
+-- the code's own types: a fault; all is well, or refused with why and where
+pub use Rattle.tables.specs.declared.Fault.{Fault}
 pub use Rattle.tables.specs.declared.Verdict.{Verdict}
 pub use Rattle.tables.specs.declared.Verdict.the-variants.{Sound, Refused}
-pub use Rattle.tables.specs.declared.Fault.{Fault}
 
--- the code of a fault
+-- the number of a fault: the one list of codes
 abbrev pub numberOf : Fault → ℕ
 numberOf Fault.Size = 1
 numberOf Fault.Slice = 2
@@ -20,15 +20,10 @@ numberOf Fault.Rule = 6
 numberOf Fault.Length = 7
 numberOf Fault.End = 8
 numberOf Fault.Loop = 9
-
--- the code and the value of an answer; 0 where all is well
-abbrev pub codeOf : Verdict → ℕ
-codeOf Sound = 0
-codeOf (Refused why place) = numberOf why
-
-abbrev pub placeOf : Verdict → ℕ
-placeOf Sound = 0
-placeOf (Refused why place) = place
+numberOf Fault.Cut = 10
+numberOf Fault.Unknown = 11
+numberOf Fault.Misplaced = 12
+numberOf Fault.Long = 13
 
 -- checks that run in this order: the first refusal
 unfoldable pub checks : List Verdict → Verdict

@@ -4,7 +4,9 @@ use mathlib.Core.Path.{_≡_}
 use Prim.Native.Nat.{ℕ, zero, suc}
 use lib.ListN.{length, replicate}
 use Rattle.tables.specs.Tables.{Tables}
-use Rattle.tables.specs.Outcome.{Answer, Bytes, startOf, addOf, reportOf}
+use Rattle.tables.specs.Answer.{Answer, Outcome}
+use Rattle.tables.specs.Report.{Bytes}
+use Rattle.tables.specs.Outcome.{startOf, addOf, reportOf}
 
 -- what is asked: Start, Add or Report alone (up, depth, group, mark and the rest), or a site: Start, then Add of one batch, then Report
 pub data Asked : Type 0 where
@@ -19,8 +21,8 @@ pub data Shown : Type 0 where
   gives : List (List ℕ) → Shown
   refuses : ℕ → ℕ → Shown
 
-abbrev number : {A : Type 0} → Answer A → List ℕ
-number r = r .code ∷ r .value ∷ []
+abbrev number : {A : Type 0} → Outcome Answer A → List ℕ
+number r = r .answer .code ∷ r .answer .value ∷ []
 
 abbrev slices : Tables → List (List ℕ)
 slices t = t .depth ∷ t .group ∷ t .mark ∷ []

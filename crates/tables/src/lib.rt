@@ -1,6 +1,7 @@
-// The definitions and theorems of a site's tables. What is refused, and why, are the code's own types; there is no function here.
+// The definitions and theorems of a site's tables. Why something is refused, what a check says and what a call answers are types that the
+// definitions and the code share; there is no function here.
 
-// Why something is refused, in the order of the codes.
+// Why something is refused, in the order of the codes: 1 to 9 by the calls, 10 to 13 by the site file.
 pub enum Fault {
     // There is no machine, or there are too many.
     Size,
@@ -20,10 +21,24 @@ pub enum Fault {
     End,
     // A link joins a machine to itself.
     Loop,
+    // The file ends inside a record, before the last uplink, or with links not closed.
+    Cut,
+    // There is no such kind of record.
+    Unknown,
+    // A record of a known kind is out of place.
+    Misplaced,
+    // The file is too long.
+    Long,
 }
 
 // What a check says: all is well, or why it is refused, and where.
 pub enum Verdict {
     Sound,
     Refused(Fault, usize),
+}
+
+// What a call answers: its code, and the value that goes with it.
+pub struct Answer {
+    pub code: u16,
+    pub value: usize,
 }

@@ -1,6 +1,6 @@
 // Texts, lists and answers, to standard output.
 use libc::STDOUT_FILENO;
-use site::Answer;
+use tables::Answer;
 
 // A text as it stands.
 pub fn text(bytes: &[u8]) {

@@ -1,8 +1,21 @@
 -- `checks::add`: lengths, tables, batch: each that refuses is the verdict.
 use borrow.Author.Needs.{needs}
-use Rattle.checks.proofs.Checking.{stops, goes-on, ends, add-by, sizes-passed}
+use Rattle.tables.specs.Outcome.{addVerdict}
+use Rattle.checks.proofs.Checking.{stops, goes-on, ends, sizes-passed}
 use Rattle.checks.proofs.add.Statement.{statement}
 use Rattle.checks.proofs.add.Tie as tie
+
+returns : tie.Need-returns
+unfolding addVerdict
+returns c = search stops
+
+returns-2 : tie.Need-returns-2
+unfolding addVerdict
+returns-2 c = search (goes-on, stops)
+
+returns-3 : tie.Need-returns-3
+unfolding addVerdict
+returns-3 c = search (goes-on, ends)
 
 pub add-spec : {M : Type 1} → statement M
 add-spec =
@@ -11,10 +24,10 @@ add-spec =
     (λ c κs. search needs)
     (λ c. search needs)
     (λ c. search needs)
-    (λ c. search (add-by, stops))
+    returns
     (λ c κs. search sizes-passed)
     (λ c. search needs)
     (λ c. search needs)
-    (λ c. search (add-by, goes-on, stops))
+    returns-2
     (λ c κs. search needs)
-    (λ c. search (add-by, goes-on, ends)))
+    returns-3)

@@ -1,8 +1,21 @@
 -- `checks::report`: lengths, those of the outputs too, and tables: each that refuses is the verdict.
 use borrow.Author.Needs.{needs}
-use Rattle.checks.proofs.Checking.{stops, goes-on, ends, report-by, sizes-passed}
+use Rattle.tables.specs.Outcome.{reportVerdict}
+use Rattle.checks.proofs.Checking.{stops, goes-on, ends, sizes-passed}
 use Rattle.checks.proofs.report.Statement.{statement}
 use Rattle.checks.proofs.report.Tie as tie
+
+returns : tie.Need-returns
+unfolding reportVerdict
+returns c = search stops
+
+returns-2 : tie.Need-returns-2
+unfolding reportVerdict
+returns-2 c = search (goes-on, stops)
+
+returns-3 : tie.Need-returns-3
+unfolding reportVerdict
+returns-3 c = search (goes-on, ends)
 
 pub report-spec : {M : Type 1} → statement M
 report-spec =
@@ -11,10 +24,10 @@ report-spec =
     (λ c κs. search needs)
     (λ c. search needs)
     (λ c. search needs)
-    (λ c. search (report-by, stops))
+    returns
     (λ c κs. search needs)
     (λ c. search needs)
     (λ c. search needs)
-    (λ c. search (report-by, goes-on, stops))
+    returns-2
     (λ c κs. search sizes-passed)
-    (λ c. search (report-by, goes-on, ends)))
+    returns-3)

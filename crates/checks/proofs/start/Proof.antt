@@ -1,8 +1,18 @@
 -- `checks::start`: the lengths, then the tree.
+use lib.Seq.{length-take-le}
 use borrow.Author.Needs.{needs}
-use Rattle.checks.proofs.Checking.{few-up, start-stops, start-ends}
+use Rattle.tables.specs.Outcome.{startVerdict}
+use Rattle.checks.proofs.Checking.{stops, few-up, depth-fits, start-stops, start-ends}
 use Rattle.checks.proofs.start.Statement.{statement}
 use Rattle.checks.proofs.start.Tie as tie
+
+returns : tie.Need-returns
+unfolding startVerdict
+returns c = search (start-stops, stops)
+
+returns-2 : tie.Need-returns-2
+unfolding startVerdict
+returns-2 c = search start-ends
 
 pub start-spec : {M : Type 1} → statement M
 start-spec =
@@ -11,6 +21,9 @@ start-spec =
     (λ c κs. search needs)
     (λ c. search needs)
     (λ c. search needs)
-    (λ c. search start-stops)
-    (λ c κs. search (few-up, needs))
-    (λ c. search start-ends))
+    returns
+    (λ c. search few-up)
+    (λ c. search (length-take-le, few-up))
+    (λ c κs. search (length-take-le, few-up, depth-fits))
+    (λ c. search needs)
+    returns-2)

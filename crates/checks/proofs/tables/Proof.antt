@@ -1,7 +1,6 @@
 -- `checks::tables`: the tree check refuses, or it leaves to the rules what they ask.
-use lib.Seq.{length-take-le}
 use borrow.Author.Needs.{needs}
-use Rattle.checks.specs.Checked.{tablesVerdict}
+use Rattle.tables.specs.Rules.{tablesVerdict}
 use Rattle.checks.proofs.Checking.{stops, goes-on, ends, tree-passed}
 use Rattle.checks.proofs.tables.Statement.{statement}
 use Rattle.checks.proofs.tables.Tie as tie
@@ -18,9 +17,7 @@ pub tables-spec : {M : Type 1} → statement M
 tables-spec =
     tie.close
     (tie.spec
-    (λ c. search needs)
-    (λ c. search length-take-le)
-    (λ c κs. search length-take-le)
+    (λ c κs. search needs)
     (λ c. search needs)
     (λ c. search needs)
     returns

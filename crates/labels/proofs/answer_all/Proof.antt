@@ -1,14 +1,12 @@
--- `answer_all` is safe and ends: every slice keeps its length, and each turn leaves one file less.
+-- `answer_all` is safe and ends: the room for a file keeps its length, and each turn leaves one file less.
 use mathlib.Core.Path.{_≡_}
 use lib.ListN.{length}
-use Rattle.printer.proofs.Lengths.{Kept}
 use borrow.Author.Needs.{needs}
 use Rattle.labels.proofs.answer_all.Statement.{statement}
 use Rattle.labels.proofs.answer_all.Tie as tie
 
 abbrev Inv-loop : tie.InvT-loop
-Inv-loop file₀ up₀ depth₀ group₀ mark₀ batch₀ machines₀ links₀ text₀ left₀ file up depth group mark batch machines links text left =
-    (length file ≡ length file₀) × Kept up₀ depth₀ group₀ mark₀ batch₀ machines₀ links₀ text₀ up depth group mark batch machines links text
+Inv-loop file₀ up₀ depth₀ group₀ mark₀ batch₀ machines₀ links₀ text₀ left₀ file up depth group mark batch machines links text left = length file ≡ length file₀
 
 abbrev μ-loop : tie.MeasureT-loop
 μ-loop file₀ up₀ depth₀ group₀ mark₀ batch₀ machines₀ links₀ text₀ left₀ file up depth group mark batch machines links text left = left
@@ -22,22 +20,6 @@ answer-all-spec =
     (λ c. search needs)
     (λ c. search needs)
     (λ c κs. search needs)
-    (λ c. search needs)
-    (λ c. search needs)
-    (λ c. search needs)
-    (λ c. search needs)
-    (λ c. search needs)
-    (λ c. search needs)
-    (λ c. search needs)
-    (λ c. search needs)
-    (λ c. search needs)
-    (λ c. search needs)
-    (λ c. search needs)
-    (λ c. search needs)
-    (λ c. search needs)
-    (λ c. search needs)
-    (λ c. search needs)
-    (λ c. search needs)
     (λ c. search needs)
     (λ c. search needs)
     (λ c. search needs)

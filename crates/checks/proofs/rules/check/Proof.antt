@@ -3,7 +3,7 @@ use Prim.Native.Nat.{_-_}
 use lib.ListN.{length}
 use borrow.Author.Needs.{needs}
 use Rattle.tables.specs.Rules.{breaks, rulesVerdict}
-use Rattle.tables.specs.Lent.{tablesOf}
+use Rattle.tables.specs.Tables.{tablesOf}
 use Rattle.checks.proofs.Searching.{Searched, start, next, refused-here, refused-none}
 use Rattle.checks.proofs.Keeping.{broken}
 use Rattle.checks.proofs.rules.check.Statement.{statement}

@@ -1,7 +1,7 @@
 -- `Site::add`: a check that refuses is the answer; else the tables are those of a history and the batch is applied.
 use borrow.Author.Needs.{needs}
 use Rattle.tables.specs.Outcome.{addOf}
-use Rattle.site.proofs.Answers.{refused, add-ready, add-done}
+use Rattle.site.proofs.Answers.{refused, add-ready, add-left}
 use Rattle.site.proofs.Site.add.Statement.{statement}
 use Rattle.site.proofs.Site.add.Tie as tie
 
@@ -22,7 +22,8 @@ add-spec =
     (λ c. search needs)
     returns
     (λ c κs. search add-ready)
+    (λ c κs. search needs)
     (λ c. search needs)
     (λ c. search needs)
     (λ c. search needs)
-    (λ c. search add-done))
+    (λ c. search add-left))

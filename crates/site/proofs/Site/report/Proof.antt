@@ -1,7 +1,7 @@
 -- `Site::report`: a check that refuses is the answer; else the outputs are filled.
 use borrow.Author.Needs.{needs}
 use Rattle.tables.specs.Outcome.{reportOf}
-use Rattle.site.proofs.Answers.{refused, report-ready, report-done}
+use Rattle.site.proofs.Answers.{refused, report-ready, report-left}
 use Rattle.site.proofs.Site.report.Statement.{statement}
 use Rattle.site.proofs.Site.report.Tie as tie
 
@@ -25,6 +25,7 @@ report-spec =
     returns
     (λ c κs. search needs)
     fill-requires
+    (λ c κs. search needs)
     (λ c. search needs)
     (λ c. search needs)
-    (λ c. search report-done))
+    (λ c. search report-left))

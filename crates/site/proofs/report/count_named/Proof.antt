@@ -7,7 +7,7 @@ use lib.Dec.{eqb}
 use lib.ListN.{length}
 use borrow.Author.Needs.{needs}
 use Rattle.plain.specs.Table.{at}
-use Rattle.tables.specs.Outcome.{named}
+use Rattle.tables.specs.Report.{named}
 use Rattle.plain.proofs.Loops.{Counted, counted-none, counted-more, counted-all}
 use Rattle.site.proofs.report.count_named.Statement.{statement}
 use Rattle.site.proofs.report.count_named.Tie as tie

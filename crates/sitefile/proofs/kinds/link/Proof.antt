@@ -1,7 +1,7 @@
 -- `kinds::link`: two numbers more at the end of those that are open, or the refusal of one link too many.
 use lib.ListN.{length-set}
-use Rattle.sitefile.proofs.ReadKinds.{number-in, link-full, link-read}
 use borrow.Author.Needs.{needs}
+use Rattle.sitefile.proofs.ReadKinds.{number-in, room-first, room-second, link-full, link-read}
 use Rattle.sitefile.proofs.kinds.link.Statement.{statement}
 use Rattle.sitefile.proofs.kinds.link.Tie as tie
 
@@ -10,17 +10,19 @@ link-spec =
     tie.close
     (tie.spec
     (λ c. search needs)
+    (λ c κs. search needs)
     (λ c. search needs)
     (λ c. search needs)
+    (λ c κs. search needs)
     (λ c up depth group mark machines links h. search link-full)
     (λ c κs. search needs)
     (λ c κs. search needs)
     (λ c. search needs)
-    (λ c. search needs)
+    (λ c. search room-first)
     (λ c κs. search needs)
     (λ c. search needs)
     (λ c. search needs)
-    (λ c. simp length-set (search needs))
+    (λ c. simp length-set (search room-second))
     (λ c. search needs)
     (λ c. search needs)
     (λ c. search needs)

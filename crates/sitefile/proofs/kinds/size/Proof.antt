@@ -1,6 +1,6 @@
 -- `kinds::size`: the number of the body, held to the limit, is what `size` of a file says.
-use Rattle.sitefile.proofs.ReadKinds.{number-in, size-none, size-many, size-read}
 use borrow.Author.Needs.{needs}
+use Rattle.sitefile.proofs.ReadKinds.{number-in, size-refused, size-read}
 use Rattle.sitefile.proofs.kinds.size.Statement.{statement}
 use Rattle.sitefile.proofs.kinds.size.Tie as tie
 
@@ -11,7 +11,10 @@ size-spec =
     (λ c κs. search needs)
     (λ c κs. search needs)
     (λ c. search needs)
-    (λ c. search (size-none, number-in))
-    (λ c. search (size-many, number-in))
+    (λ c κs. search needs)
+    (λ c. search needs)
+    (λ c. search needs)
+    (λ c κs. search needs)
+    (λ c. search (size-refused, number-in))
     (λ c. search needs)
     (λ c. search (size-read, number-in)))

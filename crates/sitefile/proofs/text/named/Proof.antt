@@ -8,7 +8,7 @@ use lib.ListN.{length}
 use borrow.Author.Needs.{needs}
 use Rattle.plain.specs.Table.{at}
 use Rattle.plain.proofs.Loops.{Counted, counted-none, counted-more, counted-all}
-use Rattle.tables.specs.Outcome.{named}
+use Rattle.tables.specs.Report.{named}
 use Rattle.sitefile.proofs.text.named.Statement.{statement}
 use Rattle.sitefile.proofs.text.named.Tie as tie
 

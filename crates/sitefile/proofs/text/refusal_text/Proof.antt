@@ -6,4 +6,4 @@ use Rattle.sitefile.proofs.text.refusal_text.Tie as tie
 
 pub refusal-text-spec : {M : Type 1} → statement M
 refusal-text-spec =
-    tie.close (tie.spec (λ c. search refusal-unfit) (λ c κs. search refusal-room) (λ c. search needs) (λ c. search refused))
+    tie.close (tie.spec (λ c. search refusal-unfit) (λ c. search needs) (λ c κs. search refusal-room) (λ c. search needs) (λ c. search refused))

@@ -1,0 +1,39 @@
+-- `trees::entries` meets its contract. The loop's invariant: the entries below `v` are machines.
+use Prim.Native.Nat.{_-_}
+use native.Mathlib.Omega.{arith}
+use lib.ListN.{length}
+use lib.Dec.{leb}
+use borrow.Author.Needs.{needs}
+use borrow.Author.Tests.{le-leb, lt-leb}
+use Rattle.plain.specs.Table.{at}
+use Rattle.checks.proofs.Searching.{Searched, start, next, refused-here, refused-none}
+use Rattle.checks.proofs.trees.entries.Statement.{statement}
+use Rattle.checks.proofs.trees.entries.Tie as tie
+
+abbrev Inv-loop : tie.InvT-loop
+Inv-loop up v₀ v = Searched (length up) (λ k. leb (length up) (at up k)) v
+
+abbrev μ-loop : tie.MeasureT-loop
+μ-loop up v₀ v = length up - v
+
+loop-holds : tie.Need-loop-holds Inv-loop μ-loop
+loop-holds c = start _ _
+
+cast-if1 : tie.Need-cast-if1 Inv-loop μ-loop
+cast-if1 c = omega (arith, c .shared-slice-known .given (c .before .before .loop .v))
+
+pub entries-spec : {M : Type 1} → statement M
+entries-spec =
+    tie.close
+    (tie.spec
+    Inv-loop
+    μ-loop
+    loop-holds
+    (λ c. search needs)
+    (λ c. search needs)
+    cast-if1
+    (λ c. search (refused-here, le-leb))
+    (λ c. search needs)
+    (λ c. search needs)
+    (λ c. search (next, lt-leb))
+    (λ c. search refused-none))

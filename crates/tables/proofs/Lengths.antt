@@ -1,0 +1,34 @@
+-- Codes 1 and 2 pass exactly where there are not too many machines and each table has an entry for each.
+use mathlib.Core.Path.{_≡_, refl}
+use mathlib.Core.List.{List}
+use mathlib.Core.Logic.{_↔_}
+use Prim.Native.Nat.{ℕ, _≤_}
+use borrow.Author.Tests.{eqb-true, eq-eqb}
+use Rattle.plain.proofs.Says.{says-and, says-lt, says-le}
+use Rattle.tables.specs.Verdict.{Sound}
+use Rattle.tables.specs.Tree.{mostMachines, sizeVerdict}
+use Rattle.tables.specs.Tables.{Tables, sized, sizesVerdict, Sizes, lengthsVerdict, Lengths}
+use Rattle.tables.proofs.Verdicts.{all-sound, sound-all, unless-sound}
+
+pub sized-is : (which : ℕ) {size n : ℕ} → sized which size n ≡ Sound → size ≡ n
+sized-is which e = eqb-true _ _ (unless-sound _ _ _ e)
+
+is-sized : (which size n : ℕ) → size ≡ n → sized which size n ≡ Sound
+is-sized which size n e = rw (eq-eqb size n e) refl
+
+pub size-exact : (n : ℕ) → (sizeVerdict n ≡ Sound) ↔ ((1 ≤ n) × (n ≤ mostMachines))
+unfolding sizeVerdict
+size-exact n = let s = says-and (says-lt 0 n) (says-le n mostMachines) in (λ e. s .gives (unless-sound _ _ _ e), λ k. rw (s .takes k))
+
+pub sizes-exact : (n depth group mark : ℕ) → (sizesVerdict n depth group mark ≡ Sound) ↔ Sizes n depth group mark
+unfolding sizesVerdict
+sizes-exact n depth group mark = (
+  λ e.
+      let (z, (d, (g, (m, _)))) = all-sound _ e in
+      let (one, most) = size-exact n .0 z in
+      record { some = one; few = most; depth-size = sized-is 1 d; group-size = sized-is 2 g; mark-size = sized-is 3 m },
+  λ k. sound-all _ (size-exact n .1 (k .some, k .few), (is-sized 1 depth n (k .depth-size), (is-sized 2 group n (k .group-size), (is-sized 3 mark n (k .mark-size), tt)))),
+)
+
+pub lengths : (up : List ℕ) (t : Tables) → lengthsVerdict up t ≡ Sound → Lengths up t
+lengths up t = sizes-exact _ _ _ _ .0
