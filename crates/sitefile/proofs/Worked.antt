@@ -12,10 +12,10 @@ use Rattle.tables.specs.Rules.{depthRule, groupRule, carriedRule, keeps, breaks
 use Rattle.tables.specs.Report.{child, stuck, split, ends, lone, machineByte, named, machineBytes, linkBytes}
 use Rattle.tables.specs.Outcome.{addVerdict, addOf, outputsVerdict, reportVerdict}
 use Rattle.sitefile.specs.Record.{bodyLength, whole, bodyOf}
-use Rattle.sitefile.specs.Text.{digits, line, lines, reportText}
+use Rattle.sitefile.specs.Text.{ascii, digits, line, lines, reportText}
 use Rattle.sitefile.specs.File.{dueOf, size, uplink, link, close, report, done, step, prints, printed}
 use Rattle.sitefile.specs.Worked.{files, Worked}
 
 pub worked : Worked
-unfolding least some count tabulate total checks refuseLeast climb hub depthOf sizeVerdict treeVerdict fresh sizesVerdict over first meet ring due below joined grouped raised linked pairs lengthVerdict endsVerdict batchVerdict after rise depthRule groupRule carriedRule keeps breaks rulesVerdict tablesVerdict child stuck split ends lone machineByte machineBytes linkBytes named judged addVerdict addOf outputsVerdict reportVerdict bodyLength whole bodyOf digits line lines reportText dueOf size uplink link close report done step prints printed files
+unfolding least some count tabulate total checks refuseLeast climb hub depthOf sizeVerdict treeVerdict fresh sizesVerdict over first meet ring due below joined grouped raised linked pairs lengthVerdict endsVerdict batchVerdict after rise depthRule groupRule carriedRule keeps breaks rulesVerdict tablesVerdict child stuck split ends lone machineByte machineBytes linkBytes named judged addVerdict addOf outputsVerdict reportVerdict bodyLength whole bodyOf ascii digits line lines reportText dueOf size uplink link close report done step prints printed files
 worked = refl

@@ -11,8 +11,8 @@ use Rattle.tables.specs.Batch.{pairs, lengthVerdict, endsVerdict, batchV
 use Rattle.tables.specs.Rules.{depthRule, groupRule, carriedRule, keeps, breaks, rulesVerdict, tablesVerdict}
 use Rattle.tables.specs.Report.{child, stuck, split, ends, lone, machineByte, named, machineBytes, linkBytes}
 use Rattle.tables.specs.Outcome.{startVerdict, startOf, addVerdict, addOf, outputsVerdict, reportVerdict, reportOf}
-use Rattle.tables.specs.Worked.{answered, expected, rows, Worked}
+use Rattle.tables.specs.Worked.{site, start, add, report, list, rows, Worked}
 
 pub worked : Worked
-unfolding least some count tabulate total checks refuseLeast climb hub depthOf sizeVerdict treeVerdict fresh sizesVerdict over first meet ring due below joined grouped raised linked pairs lengthVerdict endsVerdict batchVerdict after rise depthRule groupRule carriedRule keeps breaks rulesVerdict tablesVerdict child stuck split ends lone machineByte machineBytes linkBytes named judged startVerdict startOf addVerdict addOf outputsVerdict reportVerdict reportOf answered expected rows
+unfolding least some count tabulate total checks refuseLeast climb hub depthOf sizeVerdict treeVerdict fresh sizesVerdict over first meet ring due below joined grouped raised linked pairs lengthVerdict endsVerdict batchVerdict after rise depthRule groupRule carriedRule keeps breaks rulesVerdict tablesVerdict child stuck split ends lone machineByte machineBytes linkBytes named judged startVerdict startOf addVerdict addOf outputsVerdict reportVerdict reportOf site start add report list rows
 worked = refl
