@@ -117,6 +117,6 @@ module _ (up : List ℕ) (t : Tables) where
       let (z, (s, (r, _))) = all-sound _ e in
       let (m, (l, _)) = all-sound _ s in (
         record { sizes = lengths up t z; site = site-of up t z r },
-        sized-is 4 m,
-        sized-is 5 l,
+        sized-is _ _ _ m,
+        sized-is _ _ _ l,
       )

@@ -1,6 +1,5 @@
 -- For callers: what an answer tells, so that none has to open a definition. Code 0 tells that every check passed, so the tree is sound and the
--- tables are those of links that stand; any other code is that of the first check that refused, and what was lent is as it came. And an outcome that
--- the promise allows is the only one.
+-- tables are those of links that stand; any other code is that of the first check that refused, and what was lent is as it came.
 use mathlib.Core.Path.{_≡_, refl, sym, ap, _∙_}
 use mathlib.Core.List.{List, []}
 use mathlib.Core.Logic.{_≢_}
@@ -10,7 +9,7 @@ use Rattle.graph.proofs.Members.{empty}
 use Rattle.tables.specs.declared.Answer.{Answer}
 use Rattle.tables.specs.declared.Fault.{Fault}
 use Rattle.tables.specs.declared.Verdict.the-variants.{the-data as Verdict, Sound, Refused}
-use Rattle.tables.specs.Answer.{refusal, Outcome, outcome, judged}
+use Rattle.tables.specs.Answer.{refusal, outcome, judged}
 use Rattle.tables.specs.Tables.{Tables, fresh, lengthsVerdict}
 use Rattle.tables.specs.Batch.{pairs, batchVerdict, after, rise}
 use Rattle.tables.specs.History.{Lived, leaves, tables}
@@ -22,10 +21,6 @@ use Rattle.tables.proofs.Codes.{numbered}
 use Rattle.tables.proofs.Lengths.{size-exact, lengths}
 use Rattle.tables.proofs.Demand2.{demand2}
 use Rattle.checks.proofs.Checking.{PassedTables, add-passed}
-
--- two outcomes that a promise allows coincide
-pub one-outcome : {A B : Type 0} {a a′ : A} {l l′ : B} (o : Outcome A B) → outcome a l ≡ o → outcome a′ l′ ≡ o → (a ≡ a′) × (l ≡ l′)
-one-outcome o p q = let e = p ∙ sym q in (ap (λ r. r .answer) e, ap (λ r. r .lent) e)
 
 -- v refuses, and a is the answer to it
 pub record Refusal (v : Verdict) (a : Answer) : Type 0 where

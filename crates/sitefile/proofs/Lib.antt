@@ -11,4 +11,3 @@ pub mod ReadDue
 pub mod ReadKinds
 pub mod ReadCalls
 pub mod ReadNext
-pub mod OneOutcome

@@ -3,6 +3,7 @@ use mathlib.Core.Path.{_≡_}
 use mathlib.Core.List.{List, [], _∷_, _++_, map}
 use Prim.Native.Nat.{ℕ}
 use Prim.Native.String.{String}
+use lib.ListN.{replicate}
 use Rattle.sitefile.specs.Text.{ascii}
 use Rattle.sitefile.specs.File.{printed}
 
@@ -45,6 +46,9 @@ files =
     ∷ record { file = tree; prints = "" }
     -- lines of earlier reports stand before a refusal
     ∷ record { file = tree ++ (5 ∷ 9 ∷ []); prints = "M 1 1\nL 1 0\nL 2 1\nL 3 1\nT 1 3\nR 11 16\n" }
+    -- as long as may be, and a byte longer
+    ∷ record { file = replicate 16384 1; prints = "R 12 3\n" }
+    ∷ record { file = replicate 16385 1; prints = "R 13 16384\n" }
     ∷ []
 
 -- every file prints what was worked out by hand

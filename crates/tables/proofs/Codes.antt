@@ -1,4 +1,5 @@
--- The numbers of the faults: none is 0, so an answer's code tells whether it was refused; and a batch is not refused with 6.
+-- The numbers of the faults: 1 to 13, none is 0, so an answer's code tells whether it was refused; and a batch is not refused with 6.
+use mathlib.Core.Path.{refl}
 use mathlib.Core.Bool.{_&&_, _||_}
 use mathlib.Core.List.{List, [], _∷_}
 use mathlib.Core.Logic.{_≢_}
@@ -6,10 +7,12 @@ use Prim.Native.Nat.{ℕ, suc, _*_, _%_}
 use native.Mathlib.Omega.{arith}
 use lib.ListN.{length}
 use lib.Dec.{leb, eqb}
+use Rattle.plain.specs.Table.{tabulate}
 use Rattle.plain.proofs.Says.{by-cases}
 use Rattle.graph.specs.Cable.{Cables}
-use Rattle.tables.specs.Verdict.{Fault, numberOf}
+use Rattle.tables.specs.Verdict.{Fault, numberOf, faults}
 use Rattle.tables.specs.Batch.{mostLinks, pairs, lengthVerdict, endsVerdict, batchVerdict}
+use Rattle.tables.specs.Calls.{Codes}
 use Rattle.tables.proofs.Verdicts.{Avoids, sound-avoids, refused-avoids, checks-avoid, unless-avoids}
 
 pub numbered : (why : Fault) → numberOf why ≢ 0
@@ -26,6 +29,10 @@ numbered Fault.Cut e = omega arith
 numbered Fault.Unknown e = omega arith
 numbered Fault.Misplaced e = omega arith
 numbered Fault.Long e = omega arith
+
+pub codes : Codes
+unfolding tabulate faults
+codes = record { in-order = refl; not-done = numbered }
 
 ends-avoid : (n i : ℕ) (l : Cables) → Avoids 6 (endsVerdict n i l)
 unfolding endsVerdict

@@ -79,7 +79,7 @@ code-zero up t o e =
     record {
       site = site-of up t lengths tables;
       reported = λ k. subst (λ u. Reported up (k .links) (reportOf up u o)) (k .left)
-          (reports (k .stands) o (sized-is 4 x) (sized-is 5 y));
+          (reports (k .stands) o (sized-is _ _ _ x) (sized-is _ _ _ y));
     }
 
 pub demand2 : Demand2

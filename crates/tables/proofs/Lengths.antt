@@ -10,8 +10,8 @@ use Rattle.tables.specs.Tree.{mostMachines, sizeVerdict}
 use Rattle.tables.specs.Tables.{Tables, sized, sizesVerdict, Sizes, lengthsVerdict, Lengths}
 use Rattle.tables.proofs.Verdicts.{all-sound, sound-all, unless-sound}
 
-pub sized-is : (which : ℕ) {size n : ℕ} → sized which size n ≡ Sound → size ≡ n
-sized-is which e = eqb-true _ _ (unless-sound _ _ _ e)
+pub sized-is : (which size n : ℕ) → sized which size n ≡ Sound → size ≡ n
+sized-is which size n e = eqb-true _ _ (unless-sound _ _ _ e)
 
 is-sized : (which size n : ℕ) → size ≡ n → sized which size n ≡ Sound
 is-sized which size n e = rw (eq-eqb size n e) refl
@@ -26,8 +26,8 @@ sizes-exact n depth group mark = (
   λ e.
       let (z, (d, (g, (m, _)))) = all-sound _ e in
       let (one, most) = size-exact n .0 z in
-      record { some = one; few = most; depth-size = sized-is 1 d; group-size = sized-is 2 g; mark-size = sized-is 3 m },
-  λ k. sound-all _ (size-exact n .1 (k .some, k .few), (is-sized 1 depth n (k .depth-size), (is-sized 2 group n (k .group-size), (is-sized 3 mark n (k .mark-size), tt)))),
+      record { some = one; few = most; depth-size = sized-is _ _ _ d; group-size = sized-is _ _ _ g; mark-size = sized-is _ _ _ m },
+  λ k. sound-all _ (size-exact n .1 (k .some, k .few), (is-sized _ depth n (k .depth-size), (is-sized _ group n (k .group-size), (is-sized _ mark n (k .mark-size), tt)))),
 )
 
 pub lengths : (up : List ℕ) (t : Tables) → lengthsVerdict up t ≡ Sound → Lengths up t

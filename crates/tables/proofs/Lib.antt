@@ -1,5 +1,6 @@
 pub mod Verdicts
 pub mod Lengths
+pub mod OneOutcome
 pub mod Climb
 pub mod Sound
 pub mod Lines

@@ -1,12 +1,12 @@
--- The calls go from history to history, and the limits.
+-- The calls go from history to history, the limits, and the codes.
 use mathlib.Core.Path.{_≡_}
-use mathlib.Core.List.{List, [], _∷_, _++_}
-use mathlib.Core.Logic.{_↔_}
-use Prim.Native.Nat.{ℕ, _*_, _-_, _%_, _≤_}
+use mathlib.Core.List.{List, [], _∷_, _++_, map}
+use mathlib.Core.Logic.{_≢_, _↔_}
+use Prim.Native.Nat.{ℕ, suc, _*_, _-_, _%_, _≤_}
 use lib.ListN.{length}
-use Rattle.plain.specs.Table.{total}
+use Rattle.plain.specs.Table.{tabulate, total}
 use Rattle.graph.specs.Cable.{Cables}
-use Rattle.tables.specs.Verdict.{Sound}
+use Rattle.tables.specs.Verdict.{Fault, numberOf, faults, Sound}
 use Rattle.tables.specs.Answer.{done, outcome, judged}
 use Rattle.tables.specs.Tree.{sizeVerdict}
 use Rattle.tables.specs.Tables.{Tables, lengthsVerdict}
@@ -25,6 +25,11 @@ pub record CallsLive : Type 0 where
   pub start : (up : List ℕ) (t : Tables) → Lived up [] → lengthsVerdict up t ≡ Sound → startOf up t ≡ outcome (done (length up)) (tables up [])
   pub after-batches : (up : List ℕ) (h : History) → Lived up h → (batch : List ℕ) → Adds up batch (tables up h) (tables up (h ++ (batch ∷ [])))
   pub with-links : (up : List ℕ) (l : Cables) → Stands up l → (batch : List ℕ) → Adds up batch (tablesWith up l) (tablesWith up (l ++ pairs batch))
+
+-- the codes are 1 to 13, and no fault has 0: code 0 means that all is done
+pub record Codes : Type 0 where
+  pub in-order : map numberOf faults ≡ tabulate 13 suc
+  pub not-done : (why : Fault) → numberOf why ≢ 0
 
 -- 1 to 4,096 machines; an even number of numbers, at most 2,048.
 pub record Limits : Type 0 where
