@@ -1,14 +1,13 @@
 -- The three parts of a tree's verdict. Two searches tell of the hubs: the first finds the hub, the second, behind it, the next one or none. Entries that
 -- are machines and one hub are what the reach check asks; and the verdict is that of the first part that refuses.
-use mathlib.Core.Path.{_≡_, refl, sym, _∙_}
+use mathlib.Core.Path.{_≡_, refl, _∙_}
 use mathlib.Core.Bool.{true, false, _&&_, and-false}
-use mathlib.Core.List.{List, _++_}
+use mathlib.Core.List.{List}
 use mathlib.Core.Logic.{_≢_}
 use Prim.Native.Nat.{ℕ, _+_, _<_, _≤_}
 use native.Mathlib.Numerals.{add-one}
 use native.Mathlib.Omega.{arith}
-use lib.ListN.{length, take}
-use lib.Seq.{length-take-le, take-at}
+use lib.ListN.{length}
 use lib.Dec.{leb, ltb, eqb, leb·zero}
 use borrow.Author.Tests.{eq-eqb, ne-eqb, le-leb, lt-leb, lt-ltb, le-ltb, leb-false, ltb-true}
 use Rattle.plain.specs.Search.{least}
@@ -16,7 +15,7 @@ use Rattle.plain.specs.Table.{at}
 use Rattle.tables.specs.Verdict.{checks, refuseLeast}
 use Rattle.tables.specs.declared.Fault.{Fault}
 use Rattle.tables.specs.declared.Verdict.the-variants.{the-data as Verdict, Sound, Refused}
-use Rattle.tables.specs.Tree.{hub, entriesVerdict, hubsVerdict, reachVerdict, treeVerdict}
+use Rattle.tables.specs.Tree.{hub, entriesVerdict, hubsVerdict}
 use Rattle.tables.proofs.Verdicts.{none-refused, all-sound, unless-sound, not-both}
 use Rattle.checks.specs.TreeCheck.{hubFrom, DepthRoom, Climbable, Reached}
 use Rattle.checks.proofs.Checking.{told}
