@@ -4,7 +4,7 @@ use crate::MACHINES;
 ghost use mathlib.Core.Path.{_≡_};
 ghost use Rattle.tables.specs.Tree.{sizeVerdict};
 ghost use Rattle.tables.specs.Tables.{sizesVerdict};
-ghost use Rattle.tables.specs.Batch.{lengthVerdict};
+ghost use Rattle.tables.specs.Batch.{numbersVerdict};
 ghost use Rattle.tables.specs.Outcome.{outputsVerdict};
 use tables::Fault;
 use tables::Verdict;
@@ -57,7 +57,7 @@ pub fn outputs(n: usize, machines: usize, links: usize) -> Verdict
 
 // A batch of so many numbers: two for each link, and not too many.
 pub fn numbers(k: usize) -> Verdict
-    ensures { λ r. ⌜ r ≡ lengthVerdict k ⌝ }
+    ensures { λ r. ⌜ r ≡ numbersVerdict k ⌝ }
 {
     if k % 2 != 0 {
         return Verdict::Refused(Fault::Length, k);

@@ -2,13 +2,13 @@
 ghost use mathlib.Core.Path.{_≡_};
 ghost use Prim.Native.Nat.{_≤_};
 ghost use lib.ListN.{length};
-ghost use Rattle.tables.specs.Answer.{outcome};
 ghost use Rattle.tables.specs.Tree.{mostMachines, treeVerdict, aloneVerdict};
-ghost use Rattle.tables.specs.Tables.{tablesOf, Lengths};
+ghost use Rattle.tables.specs.Tables.{tablesOf};
+ghost use Rattle.tables.proofs.Lengths.{Lengths};
 ghost use Rattle.tables.specs.Batch.{batchVerdict};
 ghost use Rattle.tables.specs.Rules.{tablesVerdict};
 ghost use Rattle.tables.specs.Report.{bytesOf};
-ghost use Rattle.tables.specs.Outcome.{startVerdict, addVerdict, reportVerdict};
+ghost use Rattle.tables.specs.Outcome.{outcome, startVerdict, addVerdict, reportVerdict};
 ghost use Rattle.checks.specs.Started.{started};
 ghost use Rattle.checks.specs.TreeCheck.{DepthRoom};
 

@@ -8,14 +8,15 @@ use Rattle.plain.specs.Table.{tabulate, total}
 use Rattle.tables.specs.declared.Answer.{Answer}
 use Rattle.tables.specs.declared.Fault.{Fault}
 use Rattle.tables.specs.declared.Verdict.the-variants.{the-data as Verdict, Sound, Refused}
-use Rattle.tables.specs.Answer.{answerTo, outcome, judged}
+use Rattle.tables.specs.Answer.{answerTo}
 use Rattle.tables.specs.Tree.{mostMachines, hub}
-use Rattle.tables.specs.Tables.{Tables, tablesOf, fresh, Lengths}
+use Rattle.tables.specs.Tables.{Tables, tablesOf, fresh}
 use Rattle.tables.specs.Batch.{pairs, after, rise}
 use Rattle.tables.specs.Report.{bytesOf, named, machineByte, linkByte, machineBytes, linkBytes}
-use Rattle.tables.specs.Outcome.{startVerdict, startOf, addVerdict, addOf, reportVerdict, reportOf}
+use Rattle.tables.specs.Outcome.{outcome, judged, startVerdict, startOf, addVerdict, addOf, reportVerdict, reportOf}
 use Rattle.tables.proofs.Verdicts.{all-sound}
-use Rattle.tables.proofs.Lengths.{lengths}
+use Rattle.tables.proofs.Lengths.{Lengths, lengths}
+use Rattle.tables.proofs.Standing.{standing}
 use Rattle.tables.proofs.Sound.{sound-tree}
 use Rattle.tables.proofs.Links as links-told
 use Rattle.tables.proofs.Rise.{rise-is}
@@ -38,9 +39,9 @@ module _ (up depth group mark : List ℕ) where
   t = tablesOf depth group mark
 
   module _ {c : Verdict} {depth′ : List ℕ} (k : outcome c depth′ ≡ started (startVerdict up t) up depth) where
-    pub start-refused : {r : Answer} {why : Fault} {place : ℕ} → c ≡ Refused why place → r ≡ answerTo c 0 → outcome r (tablesOf depth′ group mark) ≡ startOf up t
+    pub start-stopped : {r : Answer} {why : Fault} {place : ℕ} → c ≡ Refused why place → r ≡ answerTo c 0 → outcome r (tablesOf depth′ group mark) ≡ startOf up t
     unfolding startOf
-    start-refused e a = let s = start-told _ up depth k in rw (s .kept e) (refused t (length up) (fresh up) e (s .verdict) a)
+    start-stopped e a = let s = start-told _ up depth k in rw (s .kept e) (refused t (length up) (fresh up) e (s .verdict) a)
 
     module _ (e : c ≡ Sound) where
       start-sizes : Lengths up t
@@ -63,7 +64,7 @@ module _ (up depth group mark : List ℕ) where
     pub add-ready : Applicable up depth group mark batch
     add-ready =
         let (p, b) = add-passed up t batch (told e q) in
-        let k = p .site .stands in
+        let k = standing (p .site .stands) in
         let s = sound-tree up (k .tree) in
         record {
           few = p .sizes .few;

@@ -12,9 +12,9 @@ use Rattle.plain.proofs.Says.{says-and, says-eq, says-le}
 use Rattle.tables.specs.Tree.{mostMachines}
 use Rattle.tables.specs.Tables.{Tables}
 use Rattle.tables.specs.Link.{linked}
-use Rattle.tables.specs.Batch.{mostLinks, pairs, lengthVerdict, batchVerdict, after}
+use Rattle.tables.specs.Batch.{mostLinks, pairs, numbersVerdict, batchVerdict, after}
 use Rattle.tables.proofs.Verdicts.{all-sound, unless-sound}
-use Rattle.tables.specs.Links.{Good}
+use Rattle.tables.proofs.Standing.{Good}
 use Rattle.tables.proofs.Histories.{batch-good}
 use Rattle.site.specs.RingStep.{Linkable, Links, Applicable, Applied}
 
@@ -68,7 +68,7 @@ pub record Applying (up depth group₀ mark₀ batch group mark : List ℕ) (ris
 module _ {up depth group₀ mark₀ batch : List ℕ} (r : Applicable up depth group₀ mark₀ batch) where
   -- the batch has an even length, and at most 1,024 links
   even : (length batch % 2 ≡ 0) × (length batch ≤ 2 * mostLinks)
-  unfolding batchVerdict lengthVerdict
+  unfolding batchVerdict numbersVerdict
   even = says-and (says-eq (length batch % 2) 0) (says-le (length batch) (2 * mostLinks)) .gives (unless-sound _ _ _ (all-sound _ (r .batch) .0))
 
   in-pairs : length batch ≡ 2 * length (pairs batch)

@@ -9,16 +9,17 @@ use Rattle.graph.proofs.Members.{empty}
 use Rattle.tables.specs.declared.Answer.{Answer}
 use Rattle.tables.specs.declared.Fault.{Fault}
 use Rattle.tables.specs.declared.Verdict.the-variants.{the-data as Verdict, Sound, Refused}
-use Rattle.tables.specs.Answer.{refusal, outcome, judged}
+use Rattle.tables.specs.Answer.{refusal}
 use Rattle.tables.specs.Tables.{Tables, fresh, lengthsVerdict}
 use Rattle.tables.specs.Batch.{pairs, batchVerdict, after, rise}
 use Rattle.tables.specs.History.{Lived, leaves, tables}
 use Rattle.tables.specs.Report.{Bytes, bytesOf, named, machineBytes, linkBytes}
-use Rattle.tables.specs.Outcome.{startVerdict, startOf, addVerdict, addOf, reportVerdict, reportOf}
+use Rattle.tables.specs.Outcome.{outcome, judged, startVerdict, startOf, addVerdict, addOf, reportVerdict, reportOf}
 use Rattle.tables.specs.Demand2.{Relied}
 use Rattle.tables.proofs.Verdicts.{all-sound}
 use Rattle.tables.proofs.Codes.{numbered}
 use Rattle.tables.proofs.Lengths.{size-exact, lengths}
+use Rattle.tables.proofs.Standing.{alone-sound}
 use Rattle.tables.proofs.Demand2.{demand2}
 use Rattle.checks.proofs.Checking.{PassedTables, add-passed}
 
@@ -54,7 +55,7 @@ start-done up t z e =
     let (s, v, l) = answer-sound t (length up) (fresh up) (startVerdict up t) e z in
     let (sizes, (tree, _)) = all-sound _ s in
     let k = lengths up t sizes in
-    record { lived = record { size = size-exact _ .1 (k .some, k .few); tree = tree; batches = λ b m. absurd (empty m) }; sizes = sizes; counted = v; fresh-tables = l }
+    record { lived = record { tree = alone-sound up (size-exact _ .1 (k .some, k .few)) tree; batches = λ b m. absurd (empty m) }; sizes = sizes; counted = v; fresh-tables = l }
 
 -- Add done: from the tables of links that stand to those of these links and the batch's
 pub record AddDone (up batch : List ℕ) (t t′ : Tables) (a : Answer) : Type 0 where

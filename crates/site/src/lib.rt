@@ -1,9 +1,8 @@
 // A site of machines over lent slices: Start, Add and Report.
 ghost use mathlib.Core.Path.{_≡_};
-ghost use Rattle.tables.specs.Answer.{outcome};
 ghost use Rattle.tables.specs.Tables.{tablesOf};
 ghost use Rattle.tables.specs.Report.{bytesOf};
-ghost use Rattle.tables.specs.Outcome.{startOf, addOf, reportOf};
+ghost use Rattle.tables.specs.Outcome.{outcome, startOf, addOf, reportOf};
 
 mod fill;
 mod report;

@@ -6,7 +6,7 @@ use Prim.Native.Nat.{ℕ, suc, _+_, _≤_}
 use native.Mathlib.Omega.{arith}
 use lib.ListN.{length, set, length-append}
 use lib.Seq.{sets, length-sets}
-use Rattle.tables.specs.Answer.{outcome}
+use Rattle.tables.specs.Outcome.{outcome}
 use Rattle.sitefile.specs.Next.{laid}
 use Rattle.sitefile.specs.Written.{Appends}
 use Rattle.sitefile.proofs.Fronts.{laid-more}

@@ -11,14 +11,13 @@ use borrow.Author.Tests.{eq-eqb}
 use Rattle.plain.proofs.Tabulate.{length-tabulate}
 use Rattle.tables.specs.declared.Answer.{Answer}
 use Rattle.tables.specs.declared.Verdict.the-variants.{the-data as Verdict, Sound, Refused}
-use Rattle.tables.specs.Answer.{outcome, judged}
 use Rattle.tables.specs.Tree.{mostMachines, treeVerdict}
-use Rattle.tables.specs.Tables.{Tables, tablesOf, fresh, Lengths}
+use Rattle.tables.specs.Tables.{Tables, tablesOf, fresh}
 use Rattle.tables.specs.Batch.{pairs, after, rise}
 use Rattle.tables.specs.Report.{Bytes, bytesOf, named, machineBytes, linkBytes}
-use Rattle.tables.specs.Outcome.{startVerdict, startOf, addVerdict, addOf, reportVerdict, reportOf}
+use Rattle.tables.specs.Outcome.{outcome, judged, startVerdict, startOf, addVerdict, addOf, reportVerdict, reportOf}
 use Rattle.tables.proofs.Verdicts.{passes, checks-one}
-use Rattle.tables.proofs.Lengths.{sizes-exact}
+use Rattle.tables.proofs.Lengths.{Lengths, sizes-exact}
 use Rattle.sitefile.specs.Record.{bodyLength}
 use Rattle.sitefile.specs.File as file
 use Rattle.sitefile.specs.Next.{Room, front, readOf, holding, laid, laidTables, roomOf}

@@ -13,10 +13,11 @@ use Rattle.plain.specs.Table.{at}
 use Rattle.tables.specs.declared.Answer.{Answer}
 use Rattle.tables.specs.declared.Fault.{Fault}
 use Rattle.tables.specs.declared.Verdict.the-variants.{the-data as Verdict, Sound, Refused}
-use Rattle.tables.specs.Answer.{answerTo, outcome, judged}
+use Rattle.tables.specs.Answer.{answerTo}
+use Rattle.tables.specs.Outcome.{outcome, judged}
 use Rattle.tables.specs.Tree.{sizeVerdict, treeVerdict}
 use Rattle.tables.specs.Tables.{Tables, tablesOf, fresh}
-use Rattle.tables.specs.Batch.{lengthVerdict}
+use Rattle.tables.specs.Batch.{numbersVerdict}
 use Rattle.tables.proofs.Calls.{limits}
 use Rattle.checks.proofs.Checking.{told}
 use Rattle.sitefile.specs.Record.{bodyLength, bodyOf, word}
@@ -101,7 +102,7 @@ module _ (bytes : List ℕ) (r : Reader) (up depth group mark batch machines lin
         rw (sym e, set-set up (r .ups) u (at up (r .ups)), set-getD up (r .ups) 0, grown-length, le-ltb (r .ups + 1) (r .n), s .is, ← s .answered, l)
 
 -- kind 3: where the batch may have two numbers more, the slice has room for them
-module _ {bytes : List ℕ} {r : Reader} (batch : List ℕ) {c : Verdict} (d : LinkDue bytes r (length batch)) (q : c ≡ lengthVerdict (r .opened + 2)) (f : c ≡ Sound) where
+module _ {bytes : List ℕ} {r : Reader} (batch : List ℕ) {c : Verdict} (d : LinkDue bytes r (length batch)) (q : c ≡ numbersVerdict (r .opened + 2)) (f : c ≡ Sound) where
   pub room-second : r .opened + 1 < length batch
   room-second = let k = limits .links (r .opened + 2) .0 (told f q) in omega (arith, d .size)
 
@@ -115,7 +116,7 @@ module _ (bytes : List ℕ) (r : Reader) (up depth group mark batch machines lin
   opened-size : length (take (r .opened) batch) ≡ r .opened
   opened-size = length-take-le (r .opened) batch (d .inside)
 
-  module _ {c : Verdict} (q : c ≡ lengthVerdict (r .opened + 2)) where
+  module _ {c : Verdict} (q : c ≡ numbersVerdict (r .opened + 2)) where
     pub link-full : {a : Answer} {why : Fault} {place : ℕ} → c ≡ Refused why place → a ≡ answerTo c 0 → outcome (steps.Refused a) room₃ ≡ leads bytes r due.Link room₃
     unfolding leads file.done file.link readOf
     link-full f a = rw (opened-size, told f q, a, f)

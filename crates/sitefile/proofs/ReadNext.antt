@@ -12,7 +12,7 @@ use Rattle.plain.proofs.Says.{Says, says-and, says-eq, says-le}
 use Rattle.tables.specs.Tree.{mostMachines}
 use Rattle.tables.specs.Batch.{mostLinks}
 use Rattle.tables.specs.declared.Answer.{Answer}
-use Rattle.tables.specs.Answer.{Outcome, outcome}
+use Rattle.tables.specs.Outcome.{Outcome, outcome}
 use Rattle.sitefile.specs.File as file
 use Rattle.sitefile.specs.File.{readerOf, dueOf}
 use Rattle.sitefile.specs.Next.{Room, roomOf, countsFit, readOf, nextOf}

@@ -14,7 +14,7 @@ use Rattle.plain.specs.Table.{at}
 use Rattle.plain.proofs.Says.{says-and, says-le, says-eq}
 use Rattle.tables.specs.Tree.{mostMachines}
 use Rattle.tables.specs.declared.Answer.{Answer}
-use Rattle.tables.specs.Answer.{outcome}
+use Rattle.tables.specs.Outcome.{outcome}
 use Rattle.tables.specs.Report.{bytesOf, named}
 use Rattle.sitefile.specs.Text.{line, machineLines, uplinkLines, reportText, refusalText}
 use Rattle.sitefile.specs.Written.{refusalWritten, reportFits, reportWritten, Appends, Uplinks}

@@ -11,7 +11,7 @@ use Rattle.tables.specs.declared.Verdict.the-variants.{the-data as Verdict, Sou
 use Rattle.tables.specs.Answer.{refusal}
 use Rattle.tables.specs.Tree.{sizeVerdict, treeVerdict}
 use Rattle.tables.specs.Tables.{Tables, fresh}
-use Rattle.tables.specs.Batch.{lengthVerdict}
+use Rattle.tables.specs.Batch.{numbersVerdict}
 use Rattle.tables.specs.Report.{Bytes, bytesOf, machineBytes, linkBytes}
 use Rattle.tables.specs.Outcome.{addVerdict, addOf, reportVerdict}
 use Rattle.sitefile.specs.Record.{known, bodyLength, bodyOf, word}
@@ -99,7 +99,7 @@ uplink r u =
 -- kind 3: a link; the batch may have no more numbers than it may have when it is closed
 unfoldable pub link : Read → ℕ → ℕ → FileStep
 link r a b =
-    unlessRefused (lengthVerdict (length (r .opened) + 2))
+    unlessRefused (numbersVerdict (length (r .opened) + 2))
     (reads (record { place = behind (r .place) 3; n = r .n; up = r .up; tables = r .tables; opened = r .opened ++ (a ∷ b ∷ []) }))
 
 -- kind 4: the open links are added

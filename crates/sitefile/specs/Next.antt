@@ -6,7 +6,7 @@ use lib.ListN.{length, take, drop}
 use lib.Dec.{leb, eqb}
 use Rattle.tables.specs.Tree.{mostMachines}
 use Rattle.tables.specs.Batch.{mostLinks}
-use Rattle.tables.specs.Answer.{Outcome, outcome}
+use Rattle.tables.specs.Outcome.{Outcome, outcome}
 use Rattle.tables.specs.Tables.{Tables, tablesOf}
 use Rattle.tables.specs.Report.{Bytes, bytesOf}
 use Rattle.sitefile.specs.File as file

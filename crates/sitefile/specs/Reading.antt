@@ -9,7 +9,7 @@ use Rattle.tables.specs.Tree.{mostMachines, treeVerdict}
 use Rattle.tables.specs.Tables.{Tables, fresh}
 use Rattle.tables.specs.Batch.{mostLinks}
 use Rattle.tables.specs.declared.Answer.{Answer}
-use Rattle.tables.specs.Answer.{Outcome, judged}
+use Rattle.tables.specs.Outcome.{Outcome, judged}
 use Rattle.sitefile.specs.File as file
 use Rattle.sitefile.specs.Next.{Room, countsFit, readOf, laidTables, stepOver}
 use Rattle.sitefile.specs.declared.Step.{Step}

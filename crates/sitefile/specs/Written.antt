@@ -7,7 +7,7 @@ use lib.ListN.{length}
 use lib.Seq.{sets}
 use lib.Dec.{leb, eqb}
 use Rattle.tables.specs.declared.Answer.{Answer}
-use Rattle.tables.specs.Answer.{Outcome, outcome}
+use Rattle.tables.specs.Outcome.{Outcome, outcome}
 use Rattle.tables.specs.Tree.{mostMachines}
 use Rattle.tables.specs.Report.{bytesOf}
 use Rattle.sitefile.specs.Text.{uplinkLines, reportText, refusalText}

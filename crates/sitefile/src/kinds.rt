@@ -3,7 +3,7 @@ ghost use mathlib.Core.Path.{_≡_};
 ghost use mathlib.Core.List.{List};
 ghost use Prim.Native.Nat.{ℕ, _+_, _≤_};
 ghost use lib.ListN.{length};
-ghost use Rattle.tables.specs.Answer.{outcome};
+ghost use Rattle.tables.specs.Outcome.{outcome};
 ghost use Rattle.tables.specs.Tables.{tablesOf};
 ghost use Rattle.sitefile.specs.Next.{Room, roomOf};
 ghost use Rattle.sitefile.specs.Reading.{leads, StartDue, startFront, UplinkDue, LinkDue, CloseDue, ReportDue};

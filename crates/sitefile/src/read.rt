@@ -1,6 +1,6 @@
 // The reader of the site file: one record at a time, over lent slices.
 ghost use mathlib.Core.Path.{_≡_};
-ghost use Rattle.tables.specs.Answer.{outcome};
+ghost use Rattle.tables.specs.Outcome.{outcome};
 ghost use lib.ListN.{length};
 ghost use Rattle.sitefile.specs.Next.{countsFit, nextOf, roomOf};
 ghost use Rattle.sitefile.specs.Reading.{Doing, leads};

@@ -7,7 +7,7 @@ ghost use mathlib.Core.List.{[], _∷_};
 ghost use Prim.Native.Nat.{_+_, _<_, _≤_};
 ghost use lib.ListN.{length};
 ghost use lib.Dec.{eqb};
-ghost use Rattle.tables.specs.Answer.{outcome};
+ghost use Rattle.tables.specs.Outcome.{outcome};
 ghost use Rattle.tables.specs.Report.{named};
 ghost use Rattle.sitefile.specs.Text.{decimal, line, lineFor, machineLines, uplinkLines};
 ghost use Rattle.sitefile.specs.Written.{Appends, Uplinks, refusalWritten, reportFits, reportWritten};

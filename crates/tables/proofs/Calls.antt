@@ -9,16 +9,16 @@ use Rattle.graph.specs.Cable.{Cables}
 use Rattle.plain.proofs.Says.{says-le, says-eq, says-and}
 use Rattle.plain.proofs.Tabulate.{length-tabulate}
 use Rattle.tables.specs.Verdict.{Sound, checks}
-use Rattle.tables.specs.Answer.{judged}
 use Rattle.tables.specs.Tree.{depthOf, sizeVerdict}
 use Rattle.tables.specs.Tables.{fresh, lengthsVerdict}
-use Rattle.tables.specs.Batch.{pairs, lengthVerdict, batchVerdict, after, rise}
-use Rattle.tables.specs.Links.{AllGood, Stands, tablesWith}
+use Rattle.tables.specs.Batch.{pairs, numbersVerdict, batchVerdict, after, rise}
+use Rattle.tables.specs.Links.{Stands, tablesWith}
 use Rattle.tables.specs.History.{History, links, leaves}
 use Rattle.tables.specs.Rules.{rulesVerdict, tablesVerdict}
-use Rattle.tables.specs.Outcome.{startVerdict, startOf, addVerdict, addOf}
+use Rattle.tables.specs.Outcome.{judged, startVerdict, startOf, addVerdict, addOf}
 use Rattle.tables.specs.Demand1.{SoundTree}
 use Rattle.tables.specs.Calls.{Adds, CallsLive, Limits}
+use Rattle.tables.proofs.Standing.{AllGood, alone-passed, standing}
 use Rattle.tables.proofs.Verdicts.{checks-one, unless-sound}
 use Rattle.tables.proofs.Lengths.{size-exact, sizes-exact}
 use Rattle.tables.proofs.Sound.{sound-tree}
@@ -48,11 +48,11 @@ unfolding judged addVerdict addOf tablesVerdict checks
 adds up l st batch =
     let t = tablesWith up l in
     let t′ = after up (pairs batch) t in
-    let s = sound-tree up (st .tree) in
-    let rose : rise t t′ + total (t .mark) ≡ total (t′ .mark) = rise-is up (pairs batch) t (told s (st .good) .marked .size) in
+    let s = sound-tree up (standing st .tree) in
+    let rose : rise t t′ + total (t .mark) ≡ total (t′ .mark) = rise-is up (pairs batch) t (told s (standing st .good) .marked .size) in
     let e : rise t t′ ≡ total (t′ .mark) - total (t .mark) = omega arith in
     rw (after-append up l (pairs batch) (fresh up)) (record {
-      add = rw (lengths-met s (st .good) (st .size), st .tree, rules-met s (st .good), e)
+      add = rw (lengths-met s (standing st .good) (standing st .size), standing st .tree, rules-met s (standing st .good), e)
           (ap (λ v. judged v t (total (t′ .mark) - total (t .mark)) t′) (checks-one (batchVerdict (length up) batch)));
       rises = omega arith;
     })
@@ -65,13 +65,13 @@ links-append (b ∷ h) batch = ap (λ l. pairs b ++ l) (links-append h batch) �
 pub calls-live : CallsLive
 unfolding startVerdict startOf checks judged leaves
 calls-live = record {
-  start = λ up t l e. rw (e, l .tree);
+  start = λ up t l e. rw (e, alone-passed up (l .tree) .1);
   after-batches = λ up h l batch. rw (only-links .leave up h, only-links .leave up (h ++ (batch ∷ [])), links-append h batch) (adds up (links h) (only-links .stand up h l) batch);
   with-links = adds;
 }
 
 pub limits : Limits
-unfolding lengthVerdict
+unfolding numbersVerdict
 limits = record {
   machines = size-exact;
   links = λ k. let t = says-and (says-eq (k % 2) 0) (says-le k (2 * 1024)) in (λ e. t .gives (unless-sound _ _ _ e), λ s. rw (t .takes s));

@@ -7,11 +7,10 @@ use Prim.Native.Nat.{ℕ, suc, _*_, _%_}
 use native.Mathlib.Omega.{arith}
 use lib.ListN.{length}
 use lib.Dec.{leb, eqb}
-use Rattle.plain.specs.Table.{tabulate}
 use Rattle.plain.proofs.Says.{by-cases}
 use Rattle.graph.specs.Cable.{Cables}
 use Rattle.tables.specs.Verdict.{Fault, numberOf, faults}
-use Rattle.tables.specs.Batch.{mostLinks, pairs, lengthVerdict, endsVerdict, batchVerdict}
+use Rattle.tables.specs.Batch.{mostLinks, pairs, numbersVerdict, endsVerdict, batchVerdict}
 use Rattle.tables.specs.Calls.{Codes}
 use Rattle.tables.proofs.Verdicts.{Avoids, sound-avoids, refused-avoids, checks-avoid, unless-avoids}
 
@@ -31,7 +30,7 @@ numbered Fault.Misplaced e = omega arith
 numbered Fault.Long e = omega arith
 
 pub codes : Codes
-unfolding tabulate faults
+unfolding faults
 codes = record { in-order = refl; not-done = numbered }
 
 ends-avoid : (n i : ℕ) (l : Cables) → Avoids 6 (endsVerdict n i l)
@@ -42,7 +41,7 @@ ends-avoid n i (p ∷ l) = let ih = ends-avoid n (suc i) l in
     by-cases (eqb (p .0) (p .1)) (λ q. rw (f, q) (refused-avoids (omega arith))) (λ q. rw (f, q) ih)
 
 pub batch-avoids : (n : ℕ) (batch : List ℕ) → Avoids 6 (batchVerdict n batch)
-unfolding batchVerdict lengthVerdict
+unfolding batchVerdict numbersVerdict
 batch-avoids n batch = checks-avoid _ (
   unless-avoids (eqb (length batch % 2) 0 && leb (length batch) (2 * mostLinks)) Fault.Length (length batch) (omega arith),
   (ends-avoid n 0 (pairs batch), tt),

@@ -9,18 +9,18 @@ use lib.ListN.{length}
 use borrow.Author.Tests.{eq-eqb}
 use Rattle.graph.specs.Cable.{Cables}
 use Rattle.tables.specs.Verdict.{Fault, Verdict, Sound, Refused, checks}
-use Rattle.tables.specs.Answer.{judged}
 use Rattle.tables.specs.Tree.{treeVerdict}
 use Rattle.tables.specs.Tables.{Tables, lengthsVerdict}
 use Rattle.tables.specs.Batch.{batchVerdict}
-use Rattle.tables.specs.Links.{AllGood, tablesWith, SiteOf}
+use Rattle.tables.specs.Links.{tablesWith, SiteOf}
 use Rattle.tables.specs.History.{Left}
 use Rattle.tables.specs.Rules.{breaks, rulesVerdict, tablesVerdict}
 use Rattle.tables.specs.Report.{Bytes}
-use Rattle.tables.specs.Outcome.{startOf, addVerdict, addOf, outputsVerdict, reportVerdict, reportOf}
+use Rattle.tables.specs.Outcome.{judged, startOf, addVerdict, addOf, outputsVerdict, reportVerdict, reportOf}
 use Rattle.tables.specs.Demand1.{TablesExact, Demand1}
 use Rattle.tables.proofs.Verdicts.{not-both, all-sound, checks-one, Avoids, All, checks-avoid, refuse-view, refused-at}
 use Rattle.tables.proofs.Lengths.{size-exact, lengths}
+use Rattle.tables.proofs.Standing.{AllGood, stands}
 use Rattle.tables.proofs.Codes.{batch-avoids}
 use Rattle.tables.proofs.Sound.{sound-tree, trees-exact}
 use Rattle.tables.proofs.Kept.{sound-kept}
@@ -29,23 +29,23 @@ use Rattle.tables.proofs.Complete.{complete}
 use Rattle.tables.proofs.Calls.{rules-met}
 
 -- the links of tables that break no rule
-rules-links : (up : List ℕ) (t : Tables) → lengthsVerdict up t ≡ Sound → treeVerdict up ≡ Sound → rulesVerdict up t ≡ Sound
-    → (l : Cables) × AllGood (length up) l × (tablesWith up l ≡ t)
-rules-links up t z e r = let k = lengths up t z in complete (sound-tree up e) (sound-kept up t r) (k .depth-size) (k .group-size) (k .mark-size)
+module _ (up : List ℕ) (t : Tables) (d : length (t .depth) ≡ length up) (g : length (t .group) ≡ length up) (m : length (t .mark) ≡ length up) (e : treeVerdict up ≡ Sound) where
+  pub rules-links : rulesVerdict up t ≡ Sound → (l : Cables) × AllGood (length up) l × (tablesWith up l ≡ t)
+  rules-links r = complete (sound-tree up e) (sound-kept up t r) d g m
 
-pub rules-exact : (up : List ℕ) (t : Tables) → lengthsVerdict up t ≡ Sound → treeVerdict up ≡ Sound → (rulesVerdict up t ≡ Sound) ↔ Left up t
-rules-exact up t z e =
-    let k = left-links up t in
-    (λ r. k .1 (rules-links up t z e r), λ i. let (l, g, q) = k .0 i in rw q at (rules-met (sound-tree up e) g))
+  pub rules-exact : (rulesVerdict up t ≡ Sound) ↔ Left up t
+  rules-exact =
+      let k = left-links up t in
+      (λ r. k .1 (rules-links r), λ i. let (l, a, q) = k .0 i in rw q at (rules-met (sound-tree up e) a))
 
 -- the site of tables that pass every check
 pub site-of : (up : List ℕ) (t : Tables) → lengthsVerdict up t ≡ Sound → tablesVerdict up t ≡ Sound → SiteOf up t
 unfolding tablesVerdict
 site-of up t z v =
     let (e, (r, _)) = all-sound _ v in
-    let (l, g, q) = rules-links up t z e r in
     let k = lengths up t z in
-    record { links = l; stands = record { size = size-exact _ .1 (k .some, k .few); tree = e; good = g }; left = q }
+    let (l, g, q) = rules-links up t (k .depth-size) (k .group-size) (k .mark-size) e r in
+    record { links = l; stands = stands (record { size = size-exact _ .1 (k .some, k .few); tree = e; good = g }); left = q }
 
 -- what follows the rules does not answer 6
 answer-code : {A : Type 0} (v : Verdict) (came : A) (value : ℕ) (done : A) → Avoids 6 v → judged v came value done .answer .code ≢ 6
@@ -59,11 +59,14 @@ answer-untouched Sound came value done o = absurd (o refl)
 answer-untouched (Refused c p) came value done o = refl
 
 module _ (up : List ℕ) (t : Tables) (z : lengthsVerdict up t ≡ Sound) (e : treeVerdict up ≡ Sound) where
+  kept-exactly : (rulesVerdict up t ≡ Sound) ↔ Left up t
+  kept-exactly = let k = lengths up t z in rules-exact up t (k .depth-size) (k .group-size) (k .mark-size) e
+
   exactly : {A : Type 0} (came : A) (value : ℕ) (done : A) (v : Verdict) (vs : List Verdict) → v ≡ checks (rulesVerdict up t ∷ vs)
       → All (Avoids 6) vs → (judged v came value done .answer .code ≡ 6) ↔ (¬ Left up t)
   unfolding checks judged rulesVerdict
   exactly came value done v vs q f =
-      let k = rules-exact up t z e in
+      let k = kept-exactly in
       ⊎-elim
       (λ r. let g : v ≡ checks vs = q ∙ rw r refl in (λ i _. answer-code v came value done (rw g (checks-avoid vs f)) i, λ o. absurd (o (k .0 r))))
       (λ (p, r). let g : v ≡ Refused Fault.Rule p = q ∙ rw r refl in (λ _ l. not-both r (k .1 l), λ _. rw g refl))
@@ -77,7 +80,7 @@ module _ (up : List ℕ) (t : Tables) (z : lengthsVerdict up t ≡ Sound) (e : t
   tables-exact : TablesExact up t
   unfolding addVerdict addOf reportOf checks tablesVerdict rulesVerdict
   tables-exact = record {
-    kept = rules-exact up t z e;
+    kept = kept-exactly;
     add-refused = λ batch. exactly _ _ _ (addVerdict up batch t) (batchVerdict (length up) batch ∷ []) (rw (z, e) (ap (λ v. checks (v ∷ batchVerdict (length up) batch ∷ [])) (checks-one (rulesVerdict up t)))) (batch-avoids (length up) batch, tt);
     report-refused = λ o a b. exactly _ _ _ (reportVerdict up t o) [] (report-came o a b) tt;
     place = λ v q. let r = refused-at Fault.Rule _ _ q in (r .machine, r .fails, r .before);

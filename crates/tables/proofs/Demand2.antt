@@ -12,14 +12,15 @@ use Rattle.graph.proofs.Cables.{flip, linked?}
 use Rattle.graph.proofs.Members.{on-right, here}
 use Rattle.rings.proofs.Crossing.{tree-joins}
 use Rattle.tables.specs.Verdict.{Verdict, Sound, Refused}
-use Rattle.tables.specs.Answer.{judged}
 use Rattle.tables.specs.Tree.{hub}
 use Rattle.tables.specs.Tables.{Tables}
 use Rattle.tables.specs.Links.{Stands, tablesWith}
+use Rattle.tables.specs.Rules.{tablesVerdict}
 use Rattle.tables.specs.Report.{Bytes, machineByte, linkByte, machineBytes, linkBytes}
-use Rattle.tables.specs.Outcome.{outputsVerdict, reportVerdict, reportOf}
+use Rattle.tables.specs.Outcome.{judged, outputsVerdict, reportVerdict, reportOf}
 use Rattle.tables.specs.Demand1.{SoundTree}
-use Rattle.tables.specs.Demand2.{Reported, CrossSpare, ChokesNamed, Relied, Demand2}
+use Rattle.tables.specs.Demand2.{Reported, Counted, CrossSpare, ChokesNamed, Relied, Demand2}
+use Rattle.tables.proofs.Standing.{standing}
 use Rattle.tables.proofs.Verdicts.{all-sound, sound-all}
 use Rattle.tables.proofs.Codes.{numbered}
 use Rattle.tables.proofs.Lengths.{sized-is}
@@ -29,40 +30,43 @@ use Rattle.tables.proofs.Histories.{only-links}
 use Rattle.tables.proofs.Reports.{machine-bytes, hub-byte, link-bytes, never-three}
 use Rattle.tables.proofs.Cabling.{linked-cabled, machine-cabled, uplink-cabled}
 use Rattle.tables.proofs.Calls.{rules-met, lengths-met}
-use Rattle.tables.proofs.Demand1.{site-of, report-came}
+use Rattle.tables.proofs.Demand1.{rules-links, site-of, report-came}
 
 module _ {up : List ℕ} {l : Cables} (st : Stands up l) where
   abbrev t : Tables
   t = tablesWith up l
 
   s : SoundTree up
-  s = sound-tree up (st .tree)
+  s = sound-tree up (standing st .tree)
 
   module _ (o : Bytes) (a : length (o .machines) ≡ length up) (b : length (o .links) ≡ length up) where
-    report-done : reportVerdict up t o ≡ Sound
-    report-done = report-came up t (lengths-met s (st .good) (st .size)) (st .tree) o a b ∙ sound-all _ (rules-met s (st .good), tt)
+    report-passes : reportVerdict up t o ≡ Sound
+    report-passes = report-came up t (lengths-met s (standing st .good) (standing st .size)) (standing st .tree) o a b ∙ sound-all _ (rules-met s (standing st .good), tt)
+
+    counted : Counted (reportOf up t o)
+    unfolding judged reportOf
+    counted = rw report-passes refl
 
     reports : Reported up l (reportOf up t o)
     unfolding judged reportOf machineBytes linkBytes
     reports =
-        let N = network s (st .good) in
+        let N = network s (standing st .good) in
         let d = linked? l in
-        let k = told s (st .good) in
-        rw report-done (record {
+        let k = told s (standing st .good) in
+        rw report-passes (record {
           done = refl;
           machines = λ w i. rw (at-tabulate (length up) (machineByte (hub up) up (t .group) (t .mark)) w i) (Iff·trans (machine-bytes N d k w i) (Iff·symm (machine-cabled up l w)));
           hub-byte = λ w i. rw (at-tabulate (length up) (machineByte (hub up) up (t .group) (t .mark)) w i) (Iff·trans (hub-byte N d k w i) (Iff·and Iff·rfl (Iff·symm (machine-cabled up l w))));
           uplinks = λ v i. rw (at-tabulate (length up) (linkByte (hub up) (t .mark)) v i) (Iff·trans (link-bytes N d k v i) (Iff·symm (uplink-cabled s l v i)));
-          counted = refl;
         })
 
   cross-links : CrossSpare up l
   cross-links xs ys a b e =
-      let g = st .good (a, b) (rw e (on-right xs (here refl))) in
+      let g = standing st .good (a, b) (rw e (on-right xs (here refl))) in
       map (λ x y. linked-cabled up (xs ++ ys) x y .1) (tree-joins (rooted s) (flip (xs ++ ys)) (g .one) (g .two))
 
   chokes-named : ChokesNamed up l t
-  chokes-named = record { reports = reports; cross-links = cross-links }
+  chokes-named = record { reports = λ o a b. (reports o a b, counted o a b); cross-links = cross-links }
 
 module _ {A : Type 0} (came : A) (value : ℕ) (done : A) where
   -- code 0: every check has passed
@@ -80,17 +84,19 @@ code-zero up t o e =
       site = site-of up t lengths tables;
       reported = λ k. subst (λ u. Reported up (k .links) (reportOf up u o)) (k .left)
           (reports (k .stands) o (sized-is _ _ _ x) (sized-is _ _ _ y));
+      counted = let k = site-of up t lengths tables in
+          subst (λ u. Counted (reportOf up u o)) (k .left) (counted (k .stands) o (sized-is _ _ _ x) (sized-is _ _ _ y));
     }
 
 pub demand2 : Demand2
-unfolding machineBytes
+unfolding machineBytes tablesVerdict
 demand2 = record {
   after-batches = λ up h l. rw (only-links .leave up h) (chokes-named (only-links .stand up h l));
   with-links = λ up l. chokes-named;
   code-zero = code-zero;
-  never-three = λ up t z v w h.
-      let k = site-of up t z v in
-      let s = sound-tree up (k .stands .tree) in
-      rw (at-tabulate (length up) (machineByte (hub up) up (t .group) (t .mark)) w h, ← k .left)
-      (never-three (network s (k .stands .good)) (linked? (k .links)) (told s (k .stands .good)) w h);
+  never-three = λ up t d g m v w h.
+      let (e, (r, _)) = all-sound _ v in
+      let (l, a, q) = rules-links up t d g m e r in
+      let s = sound-tree up e in
+      rw (at-tabulate (length up) (machineByte (hub up) up (t .group) (t .mark)) w h, ← q) (never-three (network s a) (linked? l) (told s a) w h);
 }

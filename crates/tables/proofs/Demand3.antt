@@ -22,12 +22,14 @@ use Rattle.rings.proofs.Crossing.{tree-joins}
 use Rattle.tables.specs.AsTree.{treeOf}
 use Rattle.tables.specs.Links.{Stands}
 use Rattle.tables.specs.History.{links}
-use Rattle.tables.specs.Answer.{Answer, Outcome}
+use Rattle.tables.specs.Answer.{Answer}
+use Rattle.tables.specs.Outcome.{Outcome}
 use Rattle.tables.specs.Report.{Bytes}
 use Rattle.tables.specs.Cables.{uplinks, cables, ChokeMachine, ChokeUplink, ChokeEnds}
 use Rattle.tables.specs.Demand1.{SoundTree}
 use Rattle.tables.specs.Demand2.{Reported}
 use Rattle.tables.specs.Demand3.{Renumbered, NamedEnds, Carried, TwoWays, Demand3}
+use Rattle.tables.proofs.Standing.{standing}
 use Rattle.tables.proofs.Sound.{sound-tree, rooted}
 use Rattle.tables.proofs.Histories.{only-links}
 use Rattle.tables.proofs.Cabling.{all-uplinks, uplink-linked, cables-within}
@@ -95,16 +97,16 @@ named-ends q a b = (
 
 module _ {up : List ℕ} {l : Cables} {up′ : List ℕ} {l′ : Cables} {f : ℕ → ℕ} (s : Stands up l) (s′ : Stands up′ l′) (r : Renumbered up l up′ l′ f) where
   one : SoundTree up
-  one = sound-tree up (s .tree)
+  one = sound-tree up (standing s .tree)
 
   two : SoundTree up′
-  two = sound-tree up′ (s′ .tree)
+  two = sound-tree up′ (standing s′ .tree)
 
   within : Within (length up) (cables up l)
-  within = cables-within one (s .good)
+  within = cables-within one (standing s .good)
 
   within′ : Within (length up) (cables up′ l′)
-  within′ = rw (r .same-size) (cables-within two (s′ .good))
+  within′ = rw (r .same-size) (cables-within two (standing s′ .good))
 
   into : (v : ℕ) → v < length up → f v < length up′
   into v i = rw (r .same-size) at (r .one-to-one .into v i)
@@ -133,7 +135,7 @@ module _ {up : List ℕ} {l : Cables} {up′ : List ℕ} {l′ : Cables} {f : �
   }
 
 two-ways : (up : List ℕ) (l : Cables) → Stands up l → TwoWays up l
-two-ways up l s m r p z = two-paths (length up) (cables up l) m (cables-within (sound-tree up (s .tree)) (s .good)) .0 (λ w i c. p .machines w i .1 c (z w i))
+two-ways up l s m r p z = two-paths (length up) (cables up l) m (cables-within (sound-tree up (standing s .tree)) (standing s .good)) .0 (λ w i c. p .machines w i .1 c (z w i))
 
 pub demand3 : Demand3
 demand3 = record {

@@ -1,36 +1,21 @@
 -- Batches only cut the links into pieces: an accepted batch has good links, a history's tables are those of its links, and each good link is
 -- an accepted batch of its own.
 use mathlib.Core.Path.{_≡_, refl, sym, ap, _∙_}
-use mathlib.Core.Bool.{_||_}
 use mathlib.Core.List.{List, [], _∷_, map, Memᴰ·of-map}
-use mathlib.Core.Logic.{inl, inr, ⊎-elim, _↔_}
-use Prim.Native.Nat.{ℕ, suc, _≤_}
-use native.Mathlib.Omega.{arith}
+use mathlib.Core.Logic.{⊎-elim, _↔_}
+use Prim.Native.Nat.{ℕ}
 use lib.ListN.{length}
-use lib.Dec.{eqb, leb}
-use borrow.Author.Tests.{eqb-false, ne-eqb, lt-leb}
-use Rattle.plain.proofs.Says.{says-le, says-or, refuted}
+use borrow.Author.Tests.{ne-eqb, lt-leb}
 use Rattle.graph.specs.Cable.{Cables}
-use Rattle.graph.proofs.Members.{here, there, cases, empty, parts}
-use Rattle.tables.specs.Batch.{pairs, lengthVerdict, endsVerdict, batchVerdict, after}
-use Rattle.tables.specs.Links.{Good, AllGood, tablesWith}
+use Rattle.graph.proofs.Members.{here, there, empty, parts}
+use Rattle.tables.specs.Batch.{pairs, numbersVerdict, endsVerdict, batchVerdict, after}
+use Rattle.tables.specs.Links.{tablesWith}
 use Rattle.tables.specs.History.{History, Accepted, Left, links, leaves, OnlyLinks}
 use Rattle.tables.specs.Tables.{Tables, fresh}
 use Rattle.tables.specs.Verdict.{Sound, checks}
-use Rattle.tables.proofs.Verdicts.{all-sound, cond-refused}
+use Rattle.tables.proofs.Verdicts.{all-sound}
+use Rattle.tables.proofs.Standing.{Good, AllGood, ends-good, good-ends, standing}
 use Rattle.tables.proofs.Links.{after-append}
-
-ends-good : (n i : ℕ) (l : Cables) → endsVerdict n i l ≡ Sound → AllGood n l
-unfolding endsVerdict
-ends-good n i [] e p m = absurd (empty m)
-ends-good n i (q ∷ l) e p m =
-    let (a, f) = cond-refused (leb n (q .0) || leb n (q .1)) _ _ _ e in
-    let (b, g) = cond-refused (eqb (q .0) (q .1)) _ _ _ f in
-    let o = refuted (says-or (says-le n (q .0)) (says-le n (q .1))) a in
-    let o₁ : ¬ (n ≤ q .0) = λ z. o (inl z) in
-    let o₂ : ¬ (n ≤ q .1) = λ z. o (inr z) in
-    let k : Good n q = record { one = omega arith; two = omega arith; apart = eqb-false (q .0) (q .1) b } in
-    ⊎-elim (λ z. rw z k) (ends-good n (suc i) l g p) (cases m)
 
 pub batch-good : (n : ℕ) (batch : List ℕ) → batchVerdict n batch ≡ Sound → AllGood n (pairs batch)
 unfolding batchVerdict
@@ -56,18 +41,18 @@ unfolding links pairs
 links-alone [] = refl
 links-alone (p ∷ l) = ap (λ k. p ∷ k) (links-alone l)
 
-alone-sound : (n : ℕ) (p : ℕ × ℕ) → Good n p → batchVerdict n (alone p) ≡ Sound
-unfolding batchVerdict lengthVerdict endsVerdict checks pairs
-alone-sound n p g = rw (lt-leb n (p .0) (g .one), lt-leb n (p .1) (g .two), ne-eqb (p .0) (p .1) (g .apart))
+one-accepted : (n : ℕ) (p : ℕ × ℕ) → Good n p → batchVerdict n (alone p) ≡ Sound
+unfolding batchVerdict numbersVerdict endsVerdict checks pairs
+one-accepted n p g = rw (lt-leb n (p .0) (g .one), lt-leb n (p .1) (g .two), ne-eqb (p .0) (p .1) (g .apart))
 
 alone-accepted : (n : ℕ) (l : Cables) → AllGood n l → Accepted n (map alone l)
-alone-accepted n l g batch m = let (p, i, e) = Memᴰ·of-map alone l m in rw (← e) (alone-sound n p (g p i))
+alone-accepted n l g batch m = let (p, i, e) = Memᴰ·of-map alone l m in rw (← e) (one-accepted n p (g p i))
 
 pub only-links : OnlyLinks
 only-links = record {
-  stand = λ up h l. record { size = l .size; tree = l .tree; good = links-good (length up) h (l .batches) };
+  stand = λ up h l. record { tree = l .tree; ends = good-ends (length up) 0 (links h) (links-good (length up) h (l .batches)) };
   leave = λ up h. leaves-after up h (fresh up);
-  lived = λ up l s. (map alone l, record { size = s .size; tree = s .tree; batches = alone-accepted (length up) l (s .good) }, links-alone l);
+  lived = λ up l s. (map alone l, record { tree = s .tree; batches = alone-accepted (length up) l (standing s .good) }, links-alone l);
 }
 
 -- some history leaves the tables where some good links do

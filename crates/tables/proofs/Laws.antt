@@ -13,6 +13,7 @@ use Rattle.tables.specs.Link.{meet, ring}
 use Rattle.tables.specs.Links.{Stands, tablesWith}
 use Rattle.tables.specs.History.{links}
 use Rattle.tables.specs.Laws.{RingLines, greatest, Tells, TablesTell, SameLinks, OrderFree}
+use Rattle.tables.proofs.Standing.{standing}
 use Rattle.tables.proofs.Sound.{sound-tree}
 use Rattle.tables.proofs.Lines.{says-over}
 use Rattle.tables.proofs.Dues.{on-is}
@@ -43,22 +44,22 @@ fresh-marks up l x i =
 
 tells : (up : List ℕ) (l : Cables) → Stands up l → Tells up l (tablesWith up l)
 tells up l st =
-    let s = sound-tree up (st .tree) in
-    let k = told s (st .good) in
+    let s = sound-tree up (standing st .tree) in
+    let k = told s (standing st .good) in
     let n = k .named in
     record {
       marks = fresh-marks up l;
       ringed = k .marked .ringed;
       carried = k .marked .carried;
-      grouped = group-law (network s (st .good)) n;
+      grouped = group-law (network s (standing st .good)) n;
       member = λ x i. sym (group-name n (n .own x i));
       least = λ x y i j e. rw e (n .least y j);
     }
 
 same-tables : (up : List ℕ) (l k : Cables) → Stands up l → Stands up k → SameLinks l k → tablesWith up l ≡ tablesWith up k
 same-tables up l k a b e =
-    let s = sound-tree up (a .tree) in
-    told-one (told s (a .good)) (told-map (λ x y. e x y .1) (λ x y. e x y .0) (told s (b .good)))
+    let s = sound-tree up (standing a .tree) in
+    told-one (told s (standing a .good)) (told-map (λ x y. e x y .1) (λ x y. e x y .0) (told s (standing b .good)))
 
 pub tables-tell : TablesTell
 tables-tell = record {

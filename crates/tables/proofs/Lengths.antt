@@ -3,12 +3,23 @@ use mathlib.Core.Path.{_≡_, refl}
 use mathlib.Core.List.{List}
 use mathlib.Core.Logic.{_↔_}
 use Prim.Native.Nat.{ℕ, _≤_}
+use lib.ListN.{length}
 use borrow.Author.Tests.{eqb-true, eq-eqb}
 use Rattle.plain.proofs.Says.{says-and, says-lt, says-le}
 use Rattle.tables.specs.Verdict.{Sound}
 use Rattle.tables.specs.Tree.{mostMachines, sizeVerdict}
-use Rattle.tables.specs.Tables.{Tables, sized, sizesVerdict, Sizes, lengthsVerdict, Lengths}
+use Rattle.tables.specs.Tables.{Tables, sized, sizesVerdict, lengthsVerdict}
 use Rattle.tables.proofs.Verdicts.{all-sound, sound-all, unless-sound}
+
+pub record Sizes (n depth group mark : ℕ) : Type 0 where
+  pub some : 1 ≤ n
+  pub few : n ≤ mostMachines
+  pub depth-size : depth ≡ n
+  pub group-size : group ≡ n
+  pub mark-size : mark ≡ n
+
+abbrev pub Lengths : List ℕ → Tables → Type 0
+Lengths up t = Sizes (length up) (length (t .depth)) (length (t .group)) (length (t .mark))
 
 pub sized-is : (which size n : ℕ) → sized which size n ≡ Sound → size ≡ n
 sized-is which size n e = eqb-true _ _ (unless-sound _ _ _ e)

@@ -8,6 +8,7 @@ pub mod Dues
 pub mod Told
 pub mod Marking
 pub mod Naming
+pub mod Standing
 pub mod Links
 pub mod Histories
 pub mod Kept

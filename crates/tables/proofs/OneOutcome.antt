@@ -1,6 +1,6 @@
 -- Every public function is held to one equation with its definition, so two outcomes that it allows coincide.
 use mathlib.Core.Path.{_≡_, sym, ap, _∙_}
-use Rattle.tables.specs.Answer.{Outcome, outcome}
+use Rattle.tables.specs.Outcome.{Outcome, outcome}
 
 -- a verdict, a number, a part of a file
 pub same : {A : Type 0} {x y z : A} → x ≡ z → y ≡ z → x ≡ y

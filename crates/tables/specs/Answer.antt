@@ -1,7 +1,7 @@
--- What a call answers, and how it comes out: the answer, and every lent slice as the call leaves it.
+-- What a call answers: a code and a value.
 use Prim.Native.Nat.{ℕ}
 use Rattle.tables.specs.Verdict.{Fault, numberOf, Verdict, Sound, Refused}
--- the code's own type: a code and a value
+-- the code's own type
 pub use Rattle.tables.specs.declared.Answer.{Answer}
 
 -- done: code 0
@@ -16,16 +16,3 @@ refusal why place = record { code = numberOf why; value = place }
 abbrev pub answerTo : Verdict → ℕ → Answer
 answerTo Sound value = done value
 answerTo (Refused why place) value = refusal why place
-
--- what a call answers, and what it was lent as it leaves it
-pub record Outcome (A B : Type 0) : Type 0 where
-  pub answer : A
-  pub lent : B
-
-abbrev pub outcome : {A B : Type 0} → A → B → Outcome A B
-outcome answer lent = record { answer = answer; lent = lent }
-
--- a call by its checks: where they refuse, what was lent is as it came; else the value, and what is done
-unfoldable pub judged : {A : Type 0} → Verdict → A → ℕ → A → Outcome Answer A
-judged Sound came value left = outcome (done value) left
-judged (Refused why place) came value left = outcome (refusal why place) came

@@ -21,8 +21,8 @@ pairs (a ∷ []) = []
 pairs (a ∷ b ∷ l) = (a, b) ∷ pairs l
 
 -- code 7: a batch of so many numbers, an odd number or over 2,048
-unfoldable pub lengthVerdict : ℕ → Verdict
-lengthVerdict k = unless (eqb (k % 2) 0 && leb k (2 * mostLinks)) Fault.Length k
+unfoldable pub numbersVerdict : ℕ → Verdict
+numbersVerdict k = unless (eqb (k % 2) 0 && leb k (2 * mostLinks)) Fault.Length k
 
 -- link by link, from index i on: 8, an end is n or more; 9, a machine is joined to itself
 unfoldable pub endsVerdict : ℕ → ℕ → Cables → Verdict
@@ -31,7 +31,7 @@ endsVerdict n i (p ∷ l) =
     cond (leb n (p .0) || leb n (p .1)) (Refused Fault.End i) (cond (eqb (p .0) (p .1)) (Refused Fault.Loop i) (endsVerdict n (suc i) l))
 
 unfoldable pub batchVerdict : ℕ → List ℕ → Verdict
-batchVerdict n batch = checks (lengthVerdict (length batch) ∷ endsVerdict n 0 (pairs batch) ∷ [])
+batchVerdict n batch = checks (numbersVerdict (length batch) ∷ endsVerdict n 0 (pairs batch) ∷ [])
 
 -- the tables after some links, one by one
 unfoldable pub after : List ℕ → Cables → Tables → Tables

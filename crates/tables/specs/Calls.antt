@@ -2,18 +2,18 @@
 use mathlib.Core.Path.{_≡_}
 use mathlib.Core.List.{List, [], _∷_, _++_, map}
 use mathlib.Core.Logic.{_≢_, _↔_}
-use Prim.Native.Nat.{ℕ, suc, _*_, _-_, _%_, _≤_}
+use Prim.Native.Nat.{ℕ, _*_, _-_, _%_, _≤_}
 use lib.ListN.{length}
-use Rattle.plain.specs.Table.{tabulate, total}
+use Rattle.plain.specs.Table.{total}
 use Rattle.graph.specs.Cable.{Cables}
 use Rattle.tables.specs.Verdict.{Fault, numberOf, faults, Sound}
-use Rattle.tables.specs.Answer.{done, outcome, judged}
+use Rattle.tables.specs.Answer.{done}
 use Rattle.tables.specs.Tree.{sizeVerdict}
 use Rattle.tables.specs.Tables.{Tables, lengthsVerdict}
-use Rattle.tables.specs.Batch.{pairs, lengthVerdict, batchVerdict}
+use Rattle.tables.specs.Batch.{pairs, numbersVerdict, batchVerdict}
 use Rattle.tables.specs.Links.{Stands, tablesWith}
 use Rattle.tables.specs.History.{History, Lived, tables}
-use Rattle.tables.specs.Outcome.{startOf, addOf}
+use Rattle.tables.specs.Outcome.{outcome, judged, startOf, addOf}
 
 -- over t Add is refused only where the batch is, leaves t′, and its value is what the marks, added up, rose by
 pub record Adds (up batch : List ℕ) (t t′ : Tables) : Type 0 where
@@ -28,10 +28,10 @@ pub record CallsLive : Type 0 where
 
 -- the codes are 1 to 13, and no fault has 0: code 0 means that all is done
 pub record Codes : Type 0 where
-  pub in-order : map numberOf faults ≡ tabulate 13 suc
+  pub in-order : map numberOf faults ≡ 1 ∷ 2 ∷ 3 ∷ 4 ∷ 5 ∷ 6 ∷ 7 ∷ 8 ∷ 9 ∷ 10 ∷ 11 ∷ 12 ∷ 13 ∷ []
   pub not-done : (why : Fault) → numberOf why ≢ 0
 
 -- 1 to 4,096 machines; an even number of numbers, at most 2,048.
 pub record Limits : Type 0 where
   pub machines : (n : ℕ) → (sizeVerdict n ≡ Sound) ↔ ((1 ≤ n) × (n ≤ 4096))
-  pub links : (k : ℕ) → (lengthVerdict k ≡ Sound) ↔ ((k % 2 ≡ 0) × (k ≤ 2 * 1024))
+  pub links : (k : ℕ) → (numbersVerdict k ≡ Sound) ↔ ((k % 2 ≡ 0) × (k ≤ 2 * 1024))

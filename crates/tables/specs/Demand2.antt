@@ -9,37 +9,41 @@ use Rattle.plain.specs.Table.{at}
 use Rattle.graph.specs.Walk.{Walk}
 use Rattle.graph.specs.Cable.{Cables, Linked}
 use Rattle.tables.specs.Verdict.{Sound}
-use Rattle.tables.specs.Answer.{Answer, Outcome}
+use Rattle.tables.specs.Answer.{Answer}
 use Rattle.tables.specs.Tree.{hub}
-use Rattle.tables.specs.Tables.{Tables, lengthsVerdict}
+use Rattle.tables.specs.Tables.{Tables}
 use Rattle.tables.specs.Links.{Stands, tablesWith, SiteOf}
 use Rattle.tables.specs.History.{History, Lived, links, tables}
 use Rattle.tables.specs.Rules.{tablesVerdict}
 use Rattle.tables.specs.Report.{Bytes, named, machineBytes}
-use Rattle.tables.specs.Outcome.{reportOf}
+use Rattle.tables.specs.Outcome.{Outcome, reportOf}
 use Rattle.tables.specs.Cables.{cables, ChokeMachine, ChokeUplink}
 
--- the report names exactly the chokes of the site with these links, and counts its machines; a choke hub's byte is 2
+-- the report names exactly the chokes of the site with these links; a choke hub's byte is 2
 pub record Reported (up : List ℕ) (links : Cables) (r : Outcome Answer Bytes) : Type 0 where
   pub done : r .answer .code ≡ 0
   pub machines : (w : ℕ) → w < length up → (at (r .lent .machines) w ≢ 0) ↔ ChokeMachine up links w
   pub hub-byte : (w : ℕ) → w < length up → (at (r .lent .machines) w ≡ 2) ↔ ((w ≡ hub up) × ChokeMachine up links w)
   pub uplinks : (v : ℕ) → v < length up → (at (r .lent .links) v ≡ 1) ↔ ChokeUplink up links v
-  pub counted : r .answer .value ≡ named (r .lent .machines)
+
+-- its value is the number of machines that it names
+abbrev pub Counted : Outcome Answer Bytes → Type 0
+Counted r = r .answer .value ≡ named (r .lent .machines)
 
 -- cross links are never chokes: taking one out leaves its ends joined
 abbrev pub CrossSpare : List ℕ → Cables → Type 0
 CrossSpare up links = (xs ys : Cables) (a b : ℕ) → links ≡ xs ++ ((a, b) ∷ ys) → Walk (Linked (cables up (xs ++ ys))) a b
 
--- both, of the site with these links and these tables
+-- of the site with these links and these tables: every report names the chokes and counts the machines that it names, and cross links are spare
 pub record ChokesNamed (up : List ℕ) (links : Cables) (t : Tables) : Type 0 where
-  pub reports : (o : Bytes) → length (o .machines) ≡ length up → length (o .links) ≡ length up → Reported up links (reportOf up t o)
+  pub reports : (o : Bytes) → length (o .machines) ≡ length up → length (o .links) ≡ length up → Reported up links (reportOf up t o) × Counted (reportOf up t o)
   pub cross-links : CrossSpare up links
 
 -- r can be relied on: t are the tables of some links that stand, and r names exactly the chokes of the site with just these links, whichever they are
 pub record Relied (up : List ℕ) (t : Tables) (r : Outcome Answer Bytes) : Type 0 where
   pub site : SiteOf up t
   pub reported : (s : SiteOf up t) → Reported up (s .links) r
+  pub counted : Counted r
 
 pub record Demand2 : Type 0 where
   -- after any run of batches
@@ -49,4 +53,5 @@ pub record Demand2 : Type 0 where
   -- with any tables at all, where the answer is 0
   pub code-zero : (up : List ℕ) (t : Tables) (o : Bytes) → reportOf up t o .answer .code ≡ 0 → Relied up t (reportOf up t o)
   -- reason 3 never happens on tables that meet the rules
-  pub never-three : (up : List ℕ) (t : Tables) → lengthsVerdict up t ≡ Sound → tablesVerdict up t ≡ Sound → (w : ℕ) → w < length up → at (machineBytes up t) w ≤ 2
+  pub never-three : (up : List ℕ) (t : Tables) → length (t .depth) ≡ length up → length (t .group) ≡ length up → length (t .mark) ≡ length up
+      → tablesVerdict up t ≡ Sound → (w : ℕ) → w < length up → at (machineBytes up t) w ≤ 2

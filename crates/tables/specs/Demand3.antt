@@ -11,7 +11,8 @@ use Rattle.graph.specs.Path.{TwoPaths}
 use Rattle.graph.specs.Renumbering.{OneToOne, KeepsCables}
 use Rattle.tables.specs.Links.{Stands}
 use Rattle.tables.specs.History.{History, Lived, links}
-use Rattle.tables.specs.Answer.{Answer, Outcome}
+use Rattle.tables.specs.Answer.{Answer}
+use Rattle.tables.specs.Outcome.{Outcome}
 use Rattle.tables.specs.Report.{Bytes}
 use Rattle.tables.specs.Cables.{cables, ChokeMachine, ChokeEnds}
 use Rattle.tables.specs.Demand2.{Reported}

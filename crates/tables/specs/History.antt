@@ -6,7 +6,7 @@ use lib.ListN.{length}
 use Rattle.plain.specs.Member.{_∈_}
 use Rattle.graph.specs.Cable.{Cables}
 use Rattle.tables.specs.Verdict.{Sound}
-use Rattle.tables.specs.Tree.{sizeVerdict, treeVerdict}
+use Rattle.tables.specs.Tree.{aloneVerdict}
 use Rattle.tables.specs.Tables.{Tables, fresh}
 use Rattle.tables.specs.Batch.{pairs, batchVerdict, after}
 use Rattle.tables.specs.Links.{Stands, tablesWith}
@@ -38,8 +38,7 @@ Left up t = (h : History) × Accepted (length up) h × (tables up h ≡ t)
 
 -- a site that has lived: a tree that is not refused, and batches that are accepted on it
 pub record Lived (up : List ℕ) (h : History) : Type 0 where
-  pub size : sizeVerdict (length up) ≡ Sound
-  pub tree : treeVerdict up ≡ Sound
+  pub tree : aloneVerdict up ≡ Sound
   pub batches : Accepted (length up) h
 
 -- only the links matter: those of a history stand, its tables are theirs, and links that stand are some history's

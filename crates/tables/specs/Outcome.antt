@@ -2,13 +2,30 @@
 use mathlib.Core.List.{List, [], _∷_}
 use Prim.Native.Nat.{ℕ}
 use lib.ListN.{length}
-use Rattle.tables.specs.Verdict.{Verdict, checks}
-use Rattle.tables.specs.Answer.{Answer, Outcome, judged}
+use Rattle.tables.specs.Verdict.{Verdict, Sound, Refused, checks}
+use Rattle.tables.specs.Answer.{Answer, answerTo}
 use Rattle.tables.specs.Tree.{treeVerdict}
 use Rattle.tables.specs.Tables.{Tables, fresh, sized, lengthsVerdict}
 use Rattle.tables.specs.Batch.{pairs, batchVerdict, after, rise}
 use Rattle.tables.specs.Rules.{tablesVerdict}
 use Rattle.tables.specs.Report.{Bytes, bytesOf, named, machineBytes, linkBytes}
+
+-- what a call answers, and what it was lent as it leaves it
+pub record Outcome (A B : Type 0) : Type 0 where
+  pub answer : A
+  pub lent : B
+
+abbrev pub outcome : {A B : Type 0} → A → B → Outcome A B
+outcome answer lent = record { answer = answer; lent = lent }
+
+-- where the checks refuse, what was lent is as it came; else as it is left
+abbrev pub lentBy : {A : Type 0} → Verdict → A → A → A
+lentBy Sound came left = left
+lentBy (Refused why place) came left = came
+
+-- a call by its checks
+unfoldable pub judged : {A : Type 0} → Verdict → A → ℕ → A → Outcome Answer A
+judged v came value left = outcome (answerTo v value) (lentBy v came left)
 
 -- Start uses 1 to 5 and ignores what the three tables held. Its value is n
 unfoldable pub startVerdict : List ℕ → Tables → Verdict

@@ -1,12 +1,11 @@
 -- The three tables beside up: depth, group and mark.
-use mathlib.Core.Path.{_≡_}
 use mathlib.Core.List.{List, [], _∷_}
-use Prim.Native.Nat.{ℕ, _≤_}
+use Prim.Native.Nat.{ℕ}
 use lib.ListN.{length, replicate}
 use lib.Dec.{eqb}
 use Rattle.plain.specs.Table.{tabulate}
 use Rattle.tables.specs.Verdict.{Fault, Verdict, checks, unless}
-use Rattle.tables.specs.Tree.{mostMachines, depthOf, sizeVerdict}
+use Rattle.tables.specs.Tree.{depthOf, sizeVerdict}
 
 pub record Tables : Type 0 where
   pub depth : List ℕ
@@ -29,16 +28,5 @@ sized which size n = unless (eqb size n) Fault.Slice which
 unfoldable pub sizesVerdict : ℕ → ℕ → ℕ → ℕ → Verdict
 sizesVerdict n depth group mark = checks (sizeVerdict n ∷ sized 1 depth n ∷ sized 2 group n ∷ sized 3 mark n ∷ [])
 
--- the same in plain words
-pub record Sizes (n depth group mark : ℕ) : Type 0 where
-  pub some : 1 ≤ n
-  pub few : n ≤ mostMachines
-  pub depth-size : depth ≡ n
-  pub group-size : group ≡ n
-  pub mark-size : mark ≡ n
-
 abbrev pub lengthsVerdict : List ℕ → Tables → Verdict
 lengthsVerdict up t = sizesVerdict (length up) (length (t .depth)) (length (t .group)) (length (t .mark))
-
-abbrev pub Lengths : List ℕ → Tables → Type 0
-Lengths up t = Sizes (length up) (length (t .depth)) (length (t .group)) (length (t .mark))

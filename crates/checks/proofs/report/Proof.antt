@@ -5,29 +5,18 @@ use Rattle.checks.proofs.Checking.{stops, goes-on, ends, sizes-passed}
 use Rattle.checks.proofs.report.Statement.{statement}
 use Rattle.checks.proofs.report.Tie as tie
 
-returns : tie.Need-returns
-unfolding reportVerdict
-returns c = search stops
-
-returns-2 : tie.Need-returns-2
-unfolding reportVerdict
-returns-2 c = search (goes-on, stops)
-
-returns-3 : tie.Need-returns-3
-unfolding reportVerdict
-returns-3 c = search (goes-on, ends)
-
 pub report-spec : {M : Type 1} → statement M
+unfolding reportVerdict
 report-spec =
     tie.close
     (tie.spec
     (λ c κs. search needs)
     (λ c. search needs)
     (λ c. search needs)
-    returns
+    (λ c. search stops)
     (λ c κs. search needs)
     (λ c. search needs)
     (λ c. search needs)
-    returns-2
+    (λ c. search (goes-on, stops))
     (λ c κs. search sizes-passed)
-    returns-3)
+    (λ c. search (goes-on, ends)))

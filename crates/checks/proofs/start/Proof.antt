@@ -6,24 +6,17 @@ use Rattle.checks.proofs.Checking.{stops, few-up, depth-fits, start-sto
 use Rattle.checks.proofs.start.Statement.{statement}
 use Rattle.checks.proofs.start.Tie as tie
 
-returns : tie.Need-returns
-unfolding startVerdict
-returns c = search (start-stops, stops)
-
-returns-2 : tie.Need-returns-2
-unfolding startVerdict
-returns-2 c = search start-ends
-
 pub start-spec : {M : Type 1} → statement M
+unfolding startVerdict
 start-spec =
     tie.close
     (tie.spec
     (λ c κs. search needs)
     (λ c. search needs)
     (λ c. search needs)
-    returns
+    (λ c. search (start-stops, stops))
     (λ c. search few-up)
     (λ c. search (length-take-le, few-up))
     (λ c κs. search (length-take-le, few-up, depth-fits))
     (λ c. search needs)
-    returns-2)
+    (λ c. search start-ends))

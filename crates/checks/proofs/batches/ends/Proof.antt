@@ -12,16 +12,13 @@ Inv-loop n batch i₀ i = LinksPassed n batch i
 abbrev μ-loop : tie.MeasureT-loop
 μ-loop n batch i₀ i = length batch - 2 * i
 
-loop-holds : tie.Need-loop-holds Inv-loop μ-loop
-loop-holds c = passed-none _ _
-
 pub ends-spec : {M : Type 1} → statement M
 ends-spec =
     tie.close
     (tie.spec
     Inv-loop
     μ-loop
-    loop-holds
+    (λ c. passed-none _ _)
     (λ c. search needs)
     (λ c. search needs)
     (λ c. search needs)

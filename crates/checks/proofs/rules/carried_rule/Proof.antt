@@ -5,19 +5,8 @@ use Rattle.tables.specs.Rules.{carriedRule}
 use Rattle.checks.proofs.rules.carried_rule.Statement.{statement}
 use Rattle.checks.proofs.rules.carried_rule.Tie as tie
 
-returns : tie.Need-returns
-unfolding carriedRule
-returns c = search (eq-eqb, ne-eqb, ← c .before .before .before .before .before .at .ensures, ← c .ringed .ensures)
-
-returns-2 : tie.Need-returns-2
-unfolding carriedRule
-returns-2 c = search (eq-eqb, ← c .before .before .before .at .ensures)
-
-returns-3 : tie.Need-returns-3
-unfolding carriedRule
-returns-3 c = search ne-eqb
-
 pub carried-rule-spec : {M : Type 1} → statement M
+unfolding carriedRule
 carried-rule-spec =
     tie.close
     (tie.spec
@@ -25,6 +14,6 @@ carried-rule-spec =
     (λ c. search needs)
     (λ c. search needs)
     (λ c κs. search needs)
-    returns
-    returns-2
-    returns-3)
+    (λ c. search (eq-eqb, ne-eqb, ← c .before .before .before .before .before .at .ensures, ← c .ringed .ensures))
+    (λ c. search (eq-eqb, ← c .before .before .before .at .ensures))
+    (λ c. search ne-eqb))

@@ -15,27 +15,17 @@ Inv-loop up depth group mark top v₀ v = Searched (length up) (breaks up (table
 abbrev μ-loop : tie.MeasureT-loop
 μ-loop up depth group mark top v₀ v = length up - v
 
-loop-holds : tie.Need-loop-holds Inv-loop μ-loop
-loop-holds c = start _ _
-
-returns : tie.Need-returns Inv-loop μ-loop
-unfolding rulesVerdict
-returns c = search (refused-here, broken)
-
-returns-2 : tie.Need-returns-2 Inv-loop μ-loop
-unfolding rulesVerdict
-returns-2 c = search refused-none
-
 pub check-spec : {M : Type 1} → statement M
+unfolding rulesVerdict
 check-spec =
     tie.close
     (tie.spec
     Inv-loop
     μ-loop
-    loop-holds
+    (λ c. start _ _)
     (λ c κs. search needs)
-    returns
+    (λ c. search (refused-here, broken))
     (λ c. search needs)
     (λ c. search needs)
     (λ c. search (next, broken))
-    returns-2)
+    (λ c. search refused-none))

@@ -6,15 +6,12 @@ use Rattle.checks.proofs.Keeping.{name-over, name-hub, name-away, name-
 use Rattle.checks.proofs.rules.group_rule.Statement.{statement}
 use Rattle.checks.proofs.rules.group_rule.Tie as tie
 
-returns : tie.Need-returns
-unfolding groupRule
-returns c = search eq-eqb
-
 pub group-rule-spec : {M : Type 1} → statement M
+unfolding groupRule
 group-rule-spec =
     tie.close
     (tie.spec
-    returns
+    (λ c. search eq-eqb)
     (λ c κs. search needs)
     (λ c. search name-over)
     (λ c. search name-hub)

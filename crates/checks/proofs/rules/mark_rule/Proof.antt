@@ -6,8 +6,5 @@ use Rattle.plain.specs.Table.{at}
 use Rattle.checks.proofs.rules.mark_rule.Statement.{statement}
 use Rattle.checks.proofs.rules.mark_rule.Tie as tie
 
-returns : tie.Need-returns
-returns c = let a = c .before .before .args in rw (le-leb (at (a .mark .now) (a .v)) 2 (omega arith))
-
 pub mark-rule-spec : {M : Type 1} → statement M
-mark-rule-spec = tie.close (tie.spec (λ c. search needs) returns (λ c. search lt-leb))
+mark-rule-spec = tie.close (tie.spec (λ c. search needs) (λ c. let a = c .before .before .args in rw (le-leb (at (a .mark .now) (a .v)) 2 (omega arith))) (λ c. search lt-leb))

@@ -5,8 +5,5 @@ use borrow.Author.Needs.{needs}
 use Rattle.checks.proofs.table.at.Statement.{statement}
 use Rattle.checks.proofs.table.at.Tie as tie
 
-cast-result : tie.Need-cast-result
-cast-result c = omega (arith, c .shared-slice-known .given (c .before .before .args .i))
-
 pub at-spec : {M : Type 1} → statement M
-at-spec = tie.close (tie.spec (λ c. search needs) (λ c. search needs) cast-result (λ c. search needs) (λ c. search List·getD-eq-default))
+at-spec = tie.close (tie.spec (λ c. search needs) (λ c. search needs) (λ c. omega (arith, c .shared-slice-known .given (c .before .before .args .i))) (λ c. search needs) (λ c. search List·getD-eq-default))

@@ -15,19 +15,13 @@ Inv-loop from to₀ v₀ to v = Filling to₀ to v (at from)
 abbrev μ-loop : tie.MeasureT-loop
 μ-loop from to₀ v₀ to v = length from - v
 
-loop-holds : tie.Need-loop-holds Inv-loop μ-loop
-loop-holds c = fill-start _ _
-
-returns : tie.Need-returns Inv-loop μ-loop
-returns c = fill-end (omega arith) (c .before .loop .inv) ∙ ap (λ n. tabulate n (at (c .before .before .args .from .now))) (c .before .before .pre) ∙ by-entries _
-
 pub copy-spec : {M : Type 1} → statement M
 copy-spec =
     tie.close
     (tie.spec
     Inv-loop
     μ-loop
-    loop-holds
+    (λ c. fill-start _ _)
     (λ c. search needs)
     (λ c. search needs)
     (λ c. search needs)
@@ -36,4 +30,4 @@ copy-spec =
     (λ c. search needs)
     (λ c. search (fill-next, needs))
     (λ c. search needs)
-    returns)
+    (λ c. fill-end (omega arith) (c .before .loop .inv) ∙ ap (λ n. tabulate n (at (c .before .before .args .from .now))) (c .before .before .pre) ∙ by-entries _))

@@ -15,26 +15,17 @@ Inv-loop known₀ v₀ known v = Filling known₀ known v (λ _. unknown)
 abbrev μ-loop : tie.MeasureT-loop
 μ-loop known₀ v₀ known v = length known₀ - v
 
-loop-holds : tie.Need-loop-holds Inv-loop μ-loop
-loop-holds c = fill-start _ _
-
-loop-again : tie.Need-loop-again Inv-loop μ-loop
-loop-again c = fill-next unknown (omega arith) refl (c .before .loop .inv)
-
-returns : tie.Need-returns Inv-loop μ-loop
-returns c = record { size = c .before .loop .inv .size; none = λ x h. c .before .loop .inv .done x (omega arith) }
-
 pub blank-spec : {M : Type 1} → statement M
 blank-spec =
     tie.close
     (tie.spec
     Inv-loop
     μ-loop
-    loop-holds
+    (λ c. fill-start _ _)
     (λ c. search needs)
     (λ c. search needs)
     (λ c. search needs)
     (λ c. search needs)
-    loop-again
+    (λ c. fill-next unknown (omega arith) refl (c .before .loop .inv))
     (λ c. search needs)
-    returns)
+    (λ c. record { size = c .before .loop .inv .size; none = λ x h. c .before .loop .inv .done x (omega arith) }))

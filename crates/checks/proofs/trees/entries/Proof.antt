@@ -16,22 +16,16 @@ Inv-loop up v₀ v = Searched (length up) (λ k. leb (length up) (at up k)) v
 abbrev μ-loop : tie.MeasureT-loop
 μ-loop up v₀ v = length up - v
 
-loop-holds : tie.Need-loop-holds Inv-loop μ-loop
-loop-holds c = start _ _
-
-cast-if1 : tie.Need-cast-if1 Inv-loop μ-loop
-cast-if1 c = omega (arith, c .shared-slice-known .given (c .before .before .loop .v))
-
 pub entries-spec : {M : Type 1} → statement M
 entries-spec =
     tie.close
     (tie.spec
     Inv-loop
     μ-loop
-    loop-holds
+    (λ c. start _ _)
     (λ c. search needs)
     (λ c. search needs)
-    cast-if1
+    (λ c. omega (arith, c .shared-slice-known .given (c .before .before .loop .v)))
     (λ c. search (refused-here, le-leb))
     (λ c. search needs)
     (λ c. search needs)

@@ -17,9 +17,6 @@ Inv-loop up from v₀ v = (from ≤ v) × Searched (length up) (λ k. leb from k
 abbrev μ-loop : tie.MeasureT-loop
 μ-loop up from v₀ v = length up - v
 
-cast-if1 : tie.Need-cast-if1 Inv-loop μ-loop
-cast-if1 c = omega (arith, c .shared-slice-known .given (c .before .before .loop .v))
-
 pub hub-from-spec : {M : Type 1} → statement M
 hub-from-spec =
     tie.close
@@ -29,7 +26,7 @@ hub-from-spec =
     (λ c. search (seek-start, needs))
     (λ c. search needs)
     (λ c. search needs)
-    cast-if1
+    (λ c. omega (arith, c .shared-slice-known .given (c .before .before .loop .v)))
     (λ c. search (least-here, seek-hub))
     (λ c. search needs)
     (λ c. search needs)

@@ -11,12 +11,6 @@ Inv-loop up known₀ v depth x₀ d₀ known x d = LaidTo up known₀ v known x 
 abbrev μ-loop : tie.MeasureT-loop
 μ-loop up known₀ v depth x₀ d₀ known x d = d
 
-cast-x : tie.Need-cast-x Inv-loop μ-loop
-cast-x c = omega (arith, c .shared-slice-known .given (c .before .before .before .loop .x))
-
-loop-less : tie.Need-loop-less Inv-loop μ-loop
-loop-less c = omega (arith, lay-deep (c .before .if1 .taken) (c .before .before .before .loop .inv))
-
 pub lay-spec : {M : Type 1} → statement M
 lay-spec =
     tie.close
@@ -31,9 +25,9 @@ lay-spec =
     (λ c. search needs)
     (λ c. search needs)
     (λ c. search needs)
-    cast-x
+    (λ c. omega (arith, c .shared-slice-known .given (c .before .before .before .loop .x)))
     (λ c. search lay-deep)
-    loop-less
+    (λ c. omega (arith, lay-deep (c .before .if1 .taken) (c .before .before .before .loop .inv)))
     (λ c. search lay-next)
     (λ c. search needs)
     (λ c. search lay-end))

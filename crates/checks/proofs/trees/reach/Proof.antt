@@ -21,12 +21,6 @@ returns c = reach-stray
     (c .if1 .taken)
     (c .before .until .ensures)
 
-cast-depth : tie.Need-cast-depth Inv-loop μ-loop
-cast-depth c = omega (arith, c .slice-known3 .given (c .before .before .until .result .at))
-
-add-depth : tie.Need-add-depth Inv-loop μ-loop
-add-depth c = omega (arith, c .slice-known3 .given (c .before .before .until .result .at))
-
 loop-again : tie.Need-loop-again Inv-loop μ-loop
 loop-again c = reach-next
     (omega arith)
@@ -49,8 +43,8 @@ reach-spec =
     returns
     (λ c. search needs)
     (λ c. search needs)
-    cast-depth
-    add-depth
+    (λ c. omega (arith, c .slice-known3 .given (c .before .before .until .result .at)))
+    (λ c. omega (arith, c .slice-known3 .given (c .before .before .until .result .at)))
     (λ c κs. search reach-lay)
     (λ c. search needs)
     (λ c. search needs)

@@ -14,9 +14,6 @@ Inv-loop up known v k₀ x₀ k x = Climbed up known v k x
 abbrev μ-loop : tie.MeasureT-loop
 μ-loop up known v k₀ x₀ k x = length up - k
 
-cast-x : tie.Need-cast-x Inv-loop μ-loop
-cast-x c = omega (arith, c .shared-slice-known2 .given (c .before .before .before .before .loop .x))
-
 pub until-spec : {M : Type 1} → statement M
 until-spec =
     tie.close
@@ -29,7 +26,7 @@ until-spec =
     (λ c. search climb-here)
     (λ c. search needs)
     (λ c. search needs)
-    cast-x
+    (λ c. omega (arith, c .shared-slice-known2 .given (c .before .before .before .before .loop .x)))
     (λ c. search needs)
     (λ c. search needs)
     (λ c. search climb-next)

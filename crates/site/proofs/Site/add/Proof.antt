@@ -5,11 +5,8 @@ use Rattle.site.proofs.Answers.{refused, add-ready, add-left}
 use Rattle.site.proofs.Site.add.Statement.{statement}
 use Rattle.site.proofs.Site.add.Tie as tie
 
-returns : tie.Need-returns
-unfolding addOf
-returns c = search refused
-
 pub add-spec : {M : Type 1} → statement M
+unfolding addOf
 add-spec =
     tie.close
     (tie.spec
@@ -20,7 +17,7 @@ add-spec =
     (λ c. search needs)
     (λ c. search needs)
     (λ c. search needs)
-    returns
+    (λ c. search refused)
     (λ c κs. search add-ready)
     (λ c κs. search needs)
     (λ c. search needs)

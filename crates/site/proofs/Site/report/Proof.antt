@@ -5,14 +5,8 @@ use Rattle.site.proofs.Answers.{refused, report-ready, report-left}
 use Rattle.site.proofs.Site.report.Statement.{statement}
 use Rattle.site.proofs.Site.report.Tie as tie
 
-returns : tie.Need-returns
-unfolding reportOf
-returns c = search refused
-
-fill-requires : tie.Need-fill-requires
-fill-requires c κs = report-ready _ _ _ _ (c .before .before .before .enum-told .given .1) _ _ (c .before .before .before .before .before .report .ensures)
-
 pub report-spec : {M : Type 1} → statement M
+unfolding reportOf
 report-spec =
     tie.close
     (tie.spec
@@ -22,9 +16,9 @@ report-spec =
     (λ c κs. search needs)
     (λ c. search needs)
     (λ c. search needs)
-    returns
+    (λ c. search refused)
     (λ c κs. search needs)
-    fill-requires
+    (λ c κs. report-ready _ _ _ _ (c .before .before .before .enum-told .given .1) _ _ (c .before .before .before .before .before .report .ensures))
     (λ c κs. search needs)
     (λ c. search needs)
     (λ c. search needs)

@@ -14,25 +14,16 @@ Inv-loop mark₀ v₀ mark v = Filling mark₀ mark v (λ _. 0)
 abbrev μ-loop : tie.MeasureT-loop
 μ-loop mark₀ v₀ mark v = length mark₀ - v
 
-loop-holds : tie.Need-loop-holds Inv-loop μ-loop
-loop-holds c = fill-start _ _
-
-loop-again : tie.Need-loop-again Inv-loop μ-loop
-loop-again c = fill-next 0 (omega arith) refl (c .before .loop .inv)
-
-returns : tie.Need-returns Inv-loop μ-loop
-returns c = fill-end (omega arith) (c .before .loop .inv) ∙ all-alike _ 0
-
 pub clear-spec : {M : Type 1} → statement M
 clear-spec =
     tie.close
     (tie.spec
     Inv-loop
     μ-loop
-    loop-holds
+    (λ c. fill-start _ _)
     (λ c. search needs)
     (λ c. search needs)
     (λ c. search needs)
-    loop-again
+    (λ c. fill-next 0 (omega arith) refl (c .before .loop .inv))
     (λ c. search needs)
-    returns)
+    (λ c. fill-end (omega arith) (c .before .loop .inv) ∙ all-alike _ 0))

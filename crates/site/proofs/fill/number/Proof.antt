@@ -14,27 +14,18 @@ Inv-loop group₀ v₀ group v = Filling group₀ group v (λ k. k)
 abbrev μ-loop : tie.MeasureT-loop
 μ-loop group₀ v₀ group v = length group₀ - v
 
-loop-holds : tie.Need-loop-holds Inv-loop μ-loop
-loop-holds c = fill-start _ _
-
-loop-again : tie.Need-loop-again Inv-loop μ-loop
-loop-again c = fill-next (c .before .loop .v) (omega arith) refl (c .before .loop .inv)
-
-returns : tie.Need-returns Inv-loop μ-loop
-returns c = fill-end (omega arith) (c .before .loop .inv)
-
 pub number-spec : {M : Type 1} → statement M
 number-spec =
     tie.close
     (tie.spec
     Inv-loop
     μ-loop
-    loop-holds
+    (λ c. fill-start _ _)
     (λ c. search needs)
     (λ c. search needs)
     (λ c. search needs)
     (λ c. search needs)
     (λ c. search needs)
-    loop-again
+    (λ c. fill-next (c .before .loop .v) (omega arith) refl (c .before .loop .inv))
     (λ c. search needs)
-    returns)
+    (λ c. fill-end (omega arith) (c .before .loop .inv)))

@@ -5,13 +5,6 @@ use Rattle.tables.specs.Report.{child}
 use Rattle.site.proofs.report.child.Statement.{statement}
 use Rattle.site.proofs.report.child.Tie as tie
 
-returns : tie.Need-returns
-unfolding child
-returns c = search eq-eqb
-
-returns-2 : tie.Need-returns-2
-unfolding child
-returns-2 c = search (ne-eqb, ← c .at .ensures)
-
 pub child-spec : {M : Type 1} → statement M
-child-spec = tie.close (tie.spec returns (λ c κs. search needs) returns-2)
+unfolding child
+child-spec = tie.close (tie.spec (λ c. search eq-eqb) (λ c κs. search needs) (λ c. search (ne-eqb, ← c .at .ensures)))

@@ -14,22 +14,16 @@ Inv-loop up top w n₀ v₀ n v = Counted (length up) (ends top up w) v n
 abbrev μ-loop : tie.MeasureT-loop
 μ-loop up top w n₀ v₀ n v = length up - v
 
-loop-holds : tie.Need-loop-holds Inv-loop μ-loop
-loop-holds c = counted-none _ _
-
-add-n : tie.Need-add-n Inv-loop μ-loop
-add-n c = let q = counted-more (c .before .before .before .loop .inv) (c .before .before .loop-test .taken) (c .before .ends .ensures) (c .one .ensures) in omega arith
-
 pub count-ends-spec : {M : Type 1} → statement M
 count-ends-spec =
     tie.close
     (tie.spec
     Inv-loop
     μ-loop
-    loop-holds
+    (λ c. counted-none _ _)
     (λ c κs. search needs)
     (λ c κs. search needs)
-    add-n
+    (λ c. let q = counted-more (c .before .before .before .loop .inv) (c .before .before .loop-test .taken) (c .before .ends .ensures) (c .one .ensures) in omega arith)
     (λ c. search needs)
     (λ c. search needs)
     (λ c. search counted-more)

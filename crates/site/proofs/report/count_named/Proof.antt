@@ -18,27 +18,18 @@ Inv-loop bytes n₀ w₀ n w = Counted (length bytes) (λ x. not (eqb (at bytes 
 abbrev μ-loop : tie.MeasureT-loop
 μ-loop bytes n₀ w₀ n w = length bytes - w
 
-loop-holds : tie.Need-loop-holds Inv-loop μ-loop
-loop-holds c = counted-none _ _
-
-add-n : tie.Need-add-n Inv-loop μ-loop
-add-n c = let q = counted-more (c .before .before .before .loop .inv) (c .before .before .loop-test .taken) refl (c .one .ensures) in omega arith
-
-returns : tie.Need-returns Inv-loop μ-loop
-unfolding named
-returns c = search counted-all
-
 pub count-named-spec : {M : Type 1} → statement M
+unfolding named
 count-named-spec =
     tie.close
     (tie.spec
     Inv-loop
     μ-loop
-    loop-holds
+    (λ c. counted-none _ _)
     (λ c. search needs)
     (λ c κs. search needs)
-    add-n
+    (λ c. let q = counted-more (c .before .before .before .loop .inv) (c .before .before .loop-test .taken) refl (c .one .ensures) in omega arith)
     (λ c. search needs)
     (λ c. search needs)
     (λ c. search counted-more)
-    returns)
+    (λ c. search counted-all))

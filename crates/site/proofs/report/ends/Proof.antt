@@ -5,17 +5,6 @@ use Rattle.tables.specs.Report.{ends}
 use Rattle.site.proofs.report.ends.Statement.{statement}
 use Rattle.site.proofs.report.ends.Tie as tie
 
-returns : tie.Need-returns
-unfolding ends
-returns c = search eq-eqb
-
-returns-2 : tie.Need-returns-2
-unfolding ends
-returns-2 c = search (ne-eqb, eq-eqb)
-
-returns-3 : tie.Need-returns-3
-unfolding ends
-returns-3 c = search (ne-eqb, ← c .at .ensures)
-
 pub ends-spec : {M : Type 1} → statement M
-ends-spec = tie.close (tie.spec returns returns-2 (λ c κs. search needs) returns-3)
+unfolding ends
+ends-spec = tie.close (tie.spec (λ c. search eq-eqb) (λ c. search (ne-eqb, eq-eqb)) (λ c κs. search needs) (λ c. search (ne-eqb, ← c .at .ensures)))

@@ -13,16 +13,13 @@ Inv-loop up mark top w v₀ v = Searched (length up) (loneEnd top up mark w) v
 abbrev μ-loop : tie.MeasureT-loop
 μ-loop up mark top w v₀ v = length up - v
 
-loop-holds : tie.Need-loop-holds Inv-loop μ-loop
-loop-holds c = start _ _
-
 pub ends-lone-spec : {M : Type 1} → statement M
 ends-lone-spec =
     tie.close
     (tie.spec
     Inv-loop
     μ-loop
-    loop-holds
+    (λ c. start _ _)
     (λ c κs. search needs)
     (λ c. search (some-here, tested))
     (λ c. search needs)

@@ -14,23 +14,17 @@ Inv-loop mark top links₀ v₀ links v = Filling links₀ links v (linkByte top
 abbrev μ-loop : tie.MeasureT-loop
 μ-loop mark top links₀ v₀ links v = length mark - v
 
-loop-holds : tie.Need-loop-holds Inv-loop μ-loop
-loop-holds c = fill-start _ _
-
-returns : tie.Need-returns Inv-loop μ-loop
-returns c = fill-end (omega arith) (c .before .loop .inv)
-
 pub fill-links-spec : {M : Type 1} → statement M
 fill-links-spec =
     tie.close
     (tie.spec
     Inv-loop
     μ-loop
-    loop-holds
+    (λ c. fill-start _ _)
     (λ c κs. search needs)
     (λ c. search needs)
     (λ c. search needs)
     (λ c. search needs)
     (λ c. search (fill-next, needs))
     (λ c. search needs)
-    returns)
+    (λ c. fill-end (omega arith) (c .before .loop .inv)))

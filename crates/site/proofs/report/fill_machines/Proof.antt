@@ -14,23 +14,17 @@ Inv-loop up group mark top machines₀ w₀ machines w = Filling machines₀ mac
 abbrev μ-loop : tie.MeasureT-loop
 μ-loop up group mark top machines₀ w₀ machines w = length up - w
 
-loop-holds : tie.Need-loop-holds Inv-loop μ-loop
-loop-holds c = fill-start _ _
-
-returns : tie.Need-returns Inv-loop μ-loop
-returns c = let p = c .before .before .before .before .before .before .pre in rw (p .1) at (fill-end (omega arith) (c .before .loop .inv))
-
 pub fill-machines-spec : {M : Type 1} → statement M
 fill-machines-spec =
     tie.close
     (tie.spec
     Inv-loop
     μ-loop
-    loop-holds
+    (λ c. fill-start _ _)
     (λ c κs. search needs)
     (λ c. search needs)
     (λ c. search needs)
     (λ c. search needs)
     (λ c. search (fill-next, needs))
     (λ c. search needs)
-    returns)
+    (λ c. let p = c .before .before .before .before .before .before .pre in rw (p .1) at (fill-end (omega arith) (c .before .loop .inv))))

@@ -13,16 +13,13 @@ Inv-loop group mark g m₀ m = Searched (length group) (carriedMember group mark
 abbrev μ-loop : tie.MeasureT-loop
 μ-loop group mark g m₀ m = length group - m
 
-loop-holds : tie.Need-loop-holds Inv-loop μ-loop
-loop-holds c = start _ _
-
 pub group-carried-spec : {M : Type 1} → statement M
 group-carried-spec =
     tie.close
     (tie.spec
     Inv-loop
     μ-loop
-    loop-holds
+    (λ c. start _ _)
     (λ c κs. search needs)
     (λ c. search (some-here, tested))
     (λ c. search needs)

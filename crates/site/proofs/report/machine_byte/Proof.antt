@@ -5,31 +5,16 @@ use Rattle.tables.specs.Report.{machineByte}
 use Rattle.site.proofs.report.machine_byte.Statement.{statement}
 use Rattle.site.proofs.report.machine_byte.Tie as tie
 
-returns : tie.Need-returns
-unfolding machineByte
-returns c = search (eq-eqb, ← c .before .split .ensures, c .if2 .taken)
-
-returns-2 : tie.Need-returns-2
-unfolding machineByte
-returns-2 c = search (ne-eqb, ← c .before .stuck .ensures, c .if3 .taken)
-
-returns-3 : tie.Need-returns-3
-unfolding machineByte
-returns-3 c = search (eq-eqb, ← c .before .before .split .ensures, c .before .if2 .left)
-
-returns-4 : tie.Need-returns-4
-unfolding machineByte
-returns-4 c = rw (ne-eqb _ _ (c .before .before .before .if1 .left), ← c .before .before .stuck .ensures, c .before .if3 .left) (c .lone-byte2 .ensures)
-
 pub machine-byte-spec : {M : Type 1} → statement M
+unfolding machineByte
 machine-byte-spec =
     tie.close
     (tie.spec
     (λ c κs. search needs)
-    returns
+    (λ c. search (eq-eqb, ← c .before .split .ensures, c .if2 .taken))
     (λ c κs. search needs)
     (λ c κs. search needs)
-    returns-2
+    (λ c. search (ne-eqb, ← c .before .stuck .ensures, c .if3 .taken))
     (λ c κs. search needs)
-    returns-3
-    returns-4)
+    (λ c. search (eq-eqb, ← c .before .before .split .ensures, c .before .if2 .left))
+    (λ c. rw (ne-eqb _ _ (c .before .before .before .if1 .left), ← c .before .before .stuck .ensures, c .before .if3 .left) (c .lone-byte2 .ensures)))

@@ -13,16 +13,13 @@ Inv-loop up group top w c d₀ d = Searched (length up) (inTwo top up group w c)
 abbrev μ-loop : tie.MeasureT-loop
 μ-loop up group top w c d₀ d = length up - d
 
-loop-holds : tie.Need-loop-holds Inv-loop μ-loop
-loop-holds c = start _ _
-
 pub other-group-spec : {M : Type 1} → statement M
 other-group-spec =
     tie.close
     (tie.spec
     Inv-loop
     μ-loop
-    loop-holds
+    (λ c. start _ _)
     (λ c κs. search needs)
     (λ c. search (some-here, tested))
     (λ c. search needs)

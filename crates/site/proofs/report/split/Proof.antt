@@ -14,27 +14,17 @@ Inv-loop up group top w c₀ c = Searched (length up) (λ x. some (length up) (i
 abbrev μ-loop : tie.MeasureT-loop
 μ-loop up group top w c₀ c = length up - c
 
-loop-holds : tie.Need-loop-holds Inv-loop μ-loop
-loop-holds c = start _ _
-
-returns : tie.Need-returns Inv-loop μ-loop
-unfolding split
-returns c = search (some-here, tested)
-
-returns-2 : tie.Need-returns-2 Inv-loop μ-loop
-unfolding split
-returns-2 c = search some-none
-
 pub split-spec : {M : Type 1} → statement M
+unfolding split
 split-spec =
     tie.close
     (tie.spec
     Inv-loop
     μ-loop
-    loop-holds
+    (λ c. start _ _)
     (λ c κs. search needs)
-    returns
+    (λ c. search (some-here, tested))
     (λ c. search needs)
     (λ c. search needs)
     (λ c. search (next, tested))
-    returns-2)
+    (λ c. search some-none))

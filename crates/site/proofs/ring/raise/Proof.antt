@@ -12,9 +12,6 @@ Inv-loop up mark₀ a w v₀ top₀ rise₀ mark v top rise = Rising up mark₀ 
 abbrev μ-loop : tie.MeasureT-loop
 μ-loop up mark₀ a w v₀ top₀ rise₀ mark v top rise = depthOf up v
 
-add-rise : tie.Need-add-rise Inv-loop μ-loop
-add-rise c = let l = c .before .before .before .before .before in omega (arith, bound (l .before .before .before .pre) (l .loop .inv), l .before .before .before .pre .few)
-
 pub raise-spec : {M : Type 1} → statement M
 raise-spec =
     tie.close
@@ -28,7 +25,7 @@ raise-spec =
     (λ c κs. search needs)
     (λ c. omega arith)
     (λ c. omega arith)
-    add-rise
+    (λ c. let l = c .before .before .before .before .before in omega (arith, bound (l .before .before .before .pre) (l .loop .inv), l .before .before .before .pre .few))
     (λ c. search (here, needs))
     (λ c. search falls)
     (λ c. search next)

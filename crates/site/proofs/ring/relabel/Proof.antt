@@ -13,16 +13,13 @@ Inv-loop group₀ hi lo i₀ group i = Mapping (renamed hi lo) group₀ group i
 abbrev μ-loop : tie.MeasureT-loop
 μ-loop group₀ hi lo i₀ group i = length group₀ - i
 
-loop-holds : tie.Need-loop-holds Inv-loop μ-loop
-loop-holds c = map-start _ _
-
 pub relabel-spec : {M : Type 1} → statement M
 relabel-spec =
     tie.close
     (tie.spec
     Inv-loop
     μ-loop
-    loop-holds
+    (λ c. map-start _ _)
     (λ c. search needs)
     (λ c. search needs)
     (λ c κs. search needs)

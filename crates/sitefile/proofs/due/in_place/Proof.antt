@@ -5,9 +5,6 @@ use borrow.Author.Needs.{needs}
 use Rattle.sitefile.proofs.due.in_place.Statement.{statement}
 use Rattle.sitefile.proofs.due.in_place.Tie as tie
 
-returns-4 : tie.Need-returns-4
-returns-4 c = ⊎-elim (λ w. rw (w .keys4) (c .grown .ensures)) (λ w. search ne-eqb) (c .before .match .came)
-
 pub in-place-spec : {M : Type 1} → statement M
 in-place-spec =
     tie.close
@@ -17,4 +14,4 @@ in-place-spec =
     (λ c. rw (c .before .match .keys1))
     (λ c. rw (c .before .match .keys2))
     (λ c. rw (c .before .match .keys3) (c .closed .ensures))
-    returns-4)
+    (λ c. ⊎-elim (λ w. rw (w .keys4) (c .grown .ensures)) (λ w. search ne-eqb) (c .before .match .came)))

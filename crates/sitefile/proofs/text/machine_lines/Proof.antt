@@ -15,12 +15,6 @@ Inv-loop out₀ at machines next₀ k₀ out next k = Lining (machineLine machin
 abbrev μ-loop : tie.MeasureT-loop
 μ-loop out₀ at machines next₀ k₀ out next k = length machines - k
 
-cast-line-for : tie.Need-cast-line-for Inv-loop μ-loop
-cast-line-for c = omega (arith, c .before .shared-slice-known2 .given (c .before .before .before .loop .k))
-
-line-for-requires : tie.Need-line-for-requires Inv-loop μ-loop
-line-for-requires c κs = let s = c .before .before in room (s .before .before .before .before .pre) (s .loop-test .taken) (s .before .loop .inv)
-
 pub machine-lines-spec : {M : Type 1} → statement M
 machine-lines-spec =
     tie.close
@@ -29,8 +23,8 @@ machine-lines-spec =
     μ-loop
     (λ c. start _ _ _ _)
     (λ c. search needs)
-    cast-line-for
-    line-for-requires
+    (λ c. omega (arith, c .before .shared-slice-known2 .given (c .before .before .before .loop .k)))
+    (λ c κs. let s = c .before .before in room (s .before .before .before .before .pre) (s .loop-test .taken) (s .before .loop .inv))
     (λ c. search needs)
     (λ c. search needs)
     (λ c. search next)

@@ -18,14 +18,8 @@ Inv-loop bytes sum₀ k₀ sum k = Counted (length bytes) (λ x. not (eqb (at by
 abbrev μ-loop : tie.MeasureT-loop
 μ-loop bytes sum₀ k₀ sum k = length bytes - k
 
-add-sum : tie.Need-add-sum Inv-loop μ-loop
-add-sum c = let q = counted-more (c .before .before .before .loop .inv) (c .before .before .loop-test .taken) refl (c .one-for .ensures) in omega arith
-
-returns : tie.Need-returns Inv-loop μ-loop
-unfolding named
-returns c = search counted-all
-
 pub named-spec : {M : Type 1} → statement M
+unfolding named
 named-spec =
     tie.close
     (tie.spec
@@ -34,8 +28,8 @@ named-spec =
     (λ c. counted-none _ _)
     (λ c. search needs)
     (λ c κs. search needs)
-    add-sum
+    (λ c. let q = counted-more (c .before .before .before .loop .inv) (c .before .before .loop-test .taken) refl (c .one-for .ensures) in omega arith)
     (λ c. search needs)
     (λ c. search needs)
     (λ c. search counted-more)
-    returns)
+    (λ c. search counted-all))

@@ -15,15 +15,6 @@ Inv-loop out₀ at up links next₀ k₀ out next k = Lining (uplinkLine up link
 abbrev μ-loop : tie.MeasureT-loop
 μ-loop out₀ at up links next₀ k₀ out next k = length links - k
 
-cast-above : tie.Need-cast-above Inv-loop μ-loop
-cast-above c = omega (arith, c .shared-slice-known4 .given (c .before .before .before .loop .k))
-
-line-for-requires : tie.Need-line-for-requires Inv-loop μ-loop
-line-for-requires c κs = let s = c .before .before .before in room (s .before .before .before .before .before .pre .room) (s .loop-test .taken) (s .before .loop .inv)
-
-loop-again : tie.Need-loop-again Inv-loop μ-loop
-loop-again c = let s = c .before .before .before .before .before .before in next (s .loop-test .taken) (c .before .before .line-for .ensures) (s .before .loop .inv)
-
 pub uplink-lines-spec : {M : Type 1} → statement M
 uplink-lines-spec =
     tie.close
@@ -34,10 +25,10 @@ uplink-lines-spec =
     (λ c. search needs)
     (λ c. search needs)
     (λ c. search needs)
-    cast-above
-    line-for-requires
+    (λ c. omega (arith, c .shared-slice-known4 .given (c .before .before .before .loop .k)))
+    (λ c κs. let s = c .before .before .before in room (s .before .before .before .before .before .pre .room) (s .loop-test .taken) (s .before .loop .inv))
     (λ c. search needs)
     (λ c. search needs)
-    loop-again
+    (λ c. let s = c .before .before .before .before .before .before in next (s .loop-test .taken) (c .before .before .line-for .ensures) (s .before .loop .inv))
     (λ c. search size)
     (λ c. search end))
