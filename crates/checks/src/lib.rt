@@ -1,4 +1,5 @@
-// What is refused: the checks of each call, in the order of the codes. No function that other crates see asks anything of its caller.
+// What is refused: the checks of each call, in the order of the codes, and the answer to a verdict; the checks of Start also leave the depths that they
+// find. No function that other crates see asks anything of its caller.
 ghost use mathlib.Core.Path.{_≡_};
 ghost use Prim.Native.Nat.{_≤_};
 ghost use lib.ListN.{length};
@@ -106,8 +107,8 @@ pub fn start(up: &[u16], depth: &mut [u16], group: &[u16], mark: &[u8]) -> Verdi
 }
 
 // All checks of Add.
-pub fn add(up: &[u16], depth: &[u16], group: &[u16], mark: &[u8], links: &[u16]) -> Verdict
-    ensures { λ r. ⌜ r ≡ addVerdict (now (up .entry)) (now (links .entry)) (tablesOf (now (depth .entry)) (now (group .entry)) (now (mark .entry))) ⌝ }
+pub fn add(up: &[u16], depth: &[u16], group: &[u16], mark: &[u8], added: &[u16]) -> Verdict
+    ensures { λ r. ⌜ r ≡ addVerdict (now (up .entry)) (now (added .entry)) (tablesOf (now (depth .entry)) (now (group .entry)) (now (mark .entry))) ⌝ }
 {
     let sizes = lengths::sizes(up.len(), depth.len(), group.len(), mark.len());
     let Verdict::Sound = sizes else {
@@ -117,7 +118,7 @@ pub fn add(up: &[u16], depth: &[u16], group: &[u16], mark: &[u8], links: &[u16])
     let Verdict::Sound = kept else {
         return kept;
     };
-    batch(up.len(), links)
+    batch(up.len(), added)
 }
 
 // All checks of Report.

@@ -79,7 +79,7 @@ fn group_rule(up: &[u16], group: &[u16], top: usize, v: usize) -> bool
     at(group, g) == g
 }
 
-// A machine that is not the name of its group is ringed, and so is the name; no machine is no ringed one.
+// A machine that is not the name of its group is ringed, and so is the name. A name that is no machine is not ringed.
 fn partner_rule(group: &[u16], mark: &[u8], top: usize, v: usize) -> bool
     requires { ⌜ (v < length (now group)) × (length (now mark) ≡ length (now group)) ⌝ }
     ensures { λ r. ⌜ r ≡ partnerRule top (now (group .entry)) (now (mark .entry)) v ⌝ }

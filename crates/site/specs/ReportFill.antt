@@ -5,8 +5,7 @@ use mathlib.Core.List.{List}
 use Prim.Native.Nat.{ℕ}
 use lib.ListN.{length}
 use Rattle.plain.specs.Table.{tabulate}
-use Rattle.tables.specs.Report.{named}
-use Rattle.tables.specs.Report.{machineByte, linkByte}
+use Rattle.tables.specs.Report.{named, machineByte, linkByte}
 
 -- both tables that a report reads have an entry for each machine
 pub record ReportRead (up group mark : List ℕ) : Type 0 where

@@ -6,8 +6,7 @@ ghost use Prim.Native.Nat.{_<_};
 ghost use lib.ListN.{length};
 ghost use Rattle.plain.specs.Search.{some, count};
 ghost use Rattle.plain.specs.Table.{tabulate};
-ghost use Rattle.tables.specs.Report.{named};
-ghost use Rattle.tables.specs.Report.{child, carriedMember, stuckChild, stuck, inTwo, split, ends, loneEnd, lone, machineByte, linkByte};
+ghost use Rattle.tables.specs.Report.{named, child, carriedMember, stuckChild, stuck, inTwo, split, ends, loneEnd, lone, machineByte, linkByte};
 ghost use Rattle.site.specs.ReportFill.{ReportRead, ReportSized, ReportFilled};
 
 // Whether c is a child of w; the hub is no child.

@@ -96,7 +96,7 @@ uplink r u =
     cond (ltb (length up) (r .n)) (reads (record { place = behind (r .place) 2; n = r .n; up = up; tables = none; opened = [] }))
     (unlessRefused (treeVerdict up) (reads (record { place = behind (r .place) 2; n = r .n; up = up; tables = fresh up; opened = [] })))
 
--- kind 3: a link; the batch may have no more numbers than it may have when it is closed
+-- kind 3: a link; one over the most that a batch may have is refused with the length that the batch would reach, 2,050
 unfoldable pub link : Read → ℕ → ℕ → FileStep
 link r a b =
     unlessRefused (numbersVerdict (length (r .opened) + 2))

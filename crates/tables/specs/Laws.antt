@@ -48,7 +48,7 @@ pub record TablesTell : Type 0 where
 abbrev pub SameLinks : Cables → Cables → Type 0
 SameLinks l k = (a b : ℕ) → Linked l a b ↔ Linked k a b
 
--- leave the same tables, whatever the batches
+-- the same links leave the same tables, whatever the batches
 pub record OrderFree : Type 0 where
   pub after-batches : (up : List ℕ) (h i : History) → Lived up h → Lived up i → SameLinks (links h) (links i) → tables up h ≡ tables up i
   pub with-links : (up : List ℕ) (l k : Cables) → Stands up l → Stands up k → SameLinks l k → tablesWith up l ≡ tablesWith up k

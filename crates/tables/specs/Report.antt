@@ -21,7 +21,7 @@ carriedMember group mark g m = eqb (at group m) g && eqb (at mark m) 2
 abbrev pub stuckChild : ℕ → List ℕ → List ℕ → List ℕ → ℕ → ℕ → Bool
 stuckChild h up group mark w c = child h up w c && not (some (length up) (carriedMember group mark (at group c)))
 
--- 1: some child is
+-- line 1: some child's group has no carried member
 unfoldable pub stuck : ℕ → List ℕ → List ℕ → List ℕ → ℕ → Bool
 stuck h up group mark w = some (length up) (stuckChild h up group mark w)
 
@@ -29,7 +29,7 @@ stuck h up group mark w = some (length up) (stuckChild h up group mark w)
 abbrev pub inTwo : ℕ → List ℕ → List ℕ → ℕ → ℕ → ℕ → Bool
 inTwo h up group w c d = child h up w c && (child h up w d && not (eqb (at group c) (at group d)))
 
--- 2: some are: the children are in two or more groups
+-- line 2: the children are in two or more groups
 unfoldable pub split : ℕ → List ℕ → List ℕ → ℕ → Bool
 split h up group w = some (length up) (λ c. some (length up) (inTwo h up group w c))
 
@@ -37,11 +37,11 @@ split h up group w = some (length up) (λ c. some (length up) (inTwo h up group 
 unfoldable pub ends : ℕ → List ℕ → ℕ → ℕ → Bool
 ends h up w v = not (eqb v h) && (eqb v w || eqb (at up v) w)
 
--- and is lone
+-- the uplink of v ends at w and is lone
 abbrev pub loneEnd : ℕ → List ℕ → List ℕ → ℕ → ℕ → Bool
 loneEnd h up mark w v = ends h up w v && eqb (at mark v) 0
 
--- 3: w ends a lone uplink and two or more uplinks end at w
+-- line 3: w ends a lone uplink and two or more uplinks end at w
 unfoldable pub lone : ℕ → List ℕ → List ℕ → ℕ → Bool
 lone h up mark w = some (length up) (loneEnd h up mark w) && leb 2 (count (length up) (ends h up w))
 

@@ -16,20 +16,31 @@ pub fn byte() -> u8 {
     one[0]
 }
 
-// A number of at most four digits.
+// A number as 16 bits have it; a greater one is the greatest.
+fn at_most(value: u32) -> u16 {
+    if value > 65535 { 65535 } else { value as u16 }
+}
+
+// A number of at most five digits.
 fn number() -> Entry {
-    let mut value: u16 = 0;
-    let mut left: usize = 5;
+    let mut value: u32 = 0;
+    let mut left: usize = 6;
     while 0 < left {
         left -= 1;
         let end = byte();
         let digit = std::num::wrapping_sub_u8(end, b'0');
         if digit > 9 {
-            return Entry { value, end };
+            return Entry {
+                value: at_most(value),
+                end,
+            };
         }
-        value = value % 1000 * 10 + digit as u16;
+        value = value % 10000 * 10 + digit as u32;
     }
-    Entry { value, end: 0 }
+    Entry {
+        value: at_most(value),
+        end: 0,
+    }
 }
 
 // What follows in a list: after a comma a number of the text, after a plus one more, and else the same again.

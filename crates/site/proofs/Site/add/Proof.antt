@@ -1,4 +1,4 @@
--- `Site::add`: a check that refuses is the answer; else the tables are those of a history and the batch is applied.
+-- `Site::add`: a check that refuses is the answer; else the tables are those of links that stand, and the batch is applied.
 use borrow.Author.Needs.{needs}
 use Rattle.tables.specs.Outcome.{addOf}
 use Rattle.site.proofs.Answers.{refused, add-ready, add-left}

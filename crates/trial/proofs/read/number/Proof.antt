@@ -4,7 +4,7 @@ use Rattle.trial.proofs.read.number.Statement.{statement}
 use Rattle.trial.proofs.read.number.Tie as tie
 
 abbrev Inv-loop : tie.InvT-loop
-Inv-loop value₀ left₀ value left = Unit
+Inv-loop value₀ left₀ value left = Unit {0}
 
 abbrev μ-loop : tie.MeasureT-loop
 μ-loop value₀ left₀ value left = left
@@ -19,10 +19,12 @@ number-spec =
     (λ c. search needs)
     (λ c κs. search needs)
     (λ c κs. search needs)
+    (λ c κs. search needs)
     (λ c. search needs)
     (λ c. search needs)
     (λ c. search needs)
     (λ c. search needs)
     (λ c. search needs)
     (λ c. search needs)
+    (λ c κs. search needs)
     (λ c. search needs))
