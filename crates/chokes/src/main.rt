@@ -3,7 +3,7 @@ use libc::STDIN_FILENO;
 use site::Site;
 
 fn main() {
-    let mut file = [0u8; sitefile::MOST_BYTES + 1];
+    let mut file = [0u8; turns::MOST_BYTES + 1];
     let mut up = [0u16; Site::MACHINES];
     let mut depth = [0u16; Site::MACHINES];
     let mut group = [0u16; Site::MACHINES];
@@ -11,7 +11,7 @@ fn main() {
     let mut batch = [0u16; 2 * Site::LINKS];
     let mut machines = [0u8; Site::MACHINES];
     let mut links = [0u8; Site::MACHINES];
-    let mut text = [0u8; sitefile::MOST_TEXT];
+    let mut text = [0u8; text::MOST_TEXT];
     let k = io::read_full(STDIN_FILENO, &mut file);
     printer::print_file(
         &file[..k],

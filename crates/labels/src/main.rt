@@ -52,7 +52,7 @@ fn answer_one(
     batch: &mut [u16; 2 * Site::LINKS],
     machines: &mut [u8; Site::MACHINES],
     links: &mut [u8; Site::MACHINES],
-    text: &mut [u8; sitefile::MOST_TEXT],
+    text: &mut [u8; text::MOST_TEXT],
 ) -> bool {
     let n = read_next(file);
     if n > file.len() {
@@ -82,7 +82,7 @@ fn answer_all(
     batch: &mut [u16; 2 * Site::LINKS],
     machines: &mut [u8; Site::MACHINES],
     links: &mut [u8; Site::MACHINES],
-    text: &mut [u8; sitefile::MOST_TEXT],
+    text: &mut [u8; text::MOST_TEXT],
 ) {
     let mut left = MOST_FILES;
     while 0 < left {
@@ -102,7 +102,7 @@ fn main() {
     let mut batch = [0u16; 2 * Site::LINKS];
     let mut machines = [0u8; Site::MACHINES];
     let mut links = [0u8; Site::MACHINES];
-    let mut text = [0u8; sitefile::MOST_TEXT];
+    let mut text = [0u8; text::MOST_TEXT];
     answer_all(
         &mut file,
         &mut up,

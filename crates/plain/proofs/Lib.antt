@@ -8,3 +8,4 @@ pub mod Fill
 pub mod Loops
 pub mod Mapping
 pub mod Total
+pub mod Laid

@@ -1,3 +1,4 @@
 pub mod Search
 pub mod Table
+pub mod Laid
 pub mod Member

@@ -1,13 +1,7 @@
-pub mod Worked
 pub mod Bodies
-pub mod Fronts
-pub mod Appending
-pub mod Digits
-pub mod OneLine
-pub mod Lines
-pub mod Widths
-pub mod Reporting
 pub mod ReadDue
 pub mod ReadKinds
 pub mod ReadCalls
 pub mod ReadNext
+pub mod Stepping
+pub mod Holding

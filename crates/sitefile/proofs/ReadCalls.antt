@@ -20,13 +20,14 @@ use Rattle.tables.proofs.Verdicts.{passes, checks-one}
 use Rattle.tables.proofs.Lengths.{Lengths, sizes-exact}
 use Rattle.sitefile.specs.Record.{bodyLength}
 use Rattle.sitefile.specs.File as file
-use Rattle.sitefile.specs.Next.{Room, front, readOf, holding, laid, laidTables, roomOf}
+use Rattle.plain.specs.Laid.{laid}
+use Rattle.sitefile.specs.Next.{Room, front, readOf, holding, laidTables, roomOf}
 use Rattle.sitefile.specs.Reading.{leads, Fronts, startFront}
 use Rattle.sitefile.specs.declared.Reader.{Reader}
 use Rattle.sitefile.specs.declared.Step.the-variants as steps
 use Rattle.sitefile.specs.declared.due.Due.the-variants as due
 use Rattle.site.proofs.Callers.{answer-sound, answer-refused}
-use Rattle.sitefile.proofs.Fronts.{laid-front}
+use Rattle.plain.proofs.Laid.{laid-front}
 use Rattle.sitefile.proofs.ReadKinds.{readerAt}
 
 -- a part that came back as it was, or as another list that is as long

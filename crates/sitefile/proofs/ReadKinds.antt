@@ -28,7 +28,7 @@ use Rattle.sitefile.specs.declared.Reader.{Reader}
 use Rattle.sitefile.specs.declared.Step.the-variants as steps
 use Rattle.sitefile.specs.declared.due.Due.the-variants as due
 use Rattle.site.proofs.Callers.{answer-sound, answer-refused}
-use Rattle.sitefile.proofs.Fronts.{laid-front, length-more, laid-more}
+use Rattle.plain.proofs.Laid.{laid-front, length-more, laid-more}
 
 abbrev pub readerAt : ℕ → ℕ → ℕ → ℕ → Reader
 readerAt place n ups opened = record { place = place; n = n; ups = ups; opened = opened }

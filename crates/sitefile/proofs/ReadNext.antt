@@ -25,10 +25,10 @@ use Rattle.sitefile.specs.declared.due.Due.the-variants as due
 use Rattle.sitefile.proofs.ReadDue.{DueFacts, told}
 
 -- what fits: the counts
-abbrev Fit : Reader → Type 0
+abbrev pub Fit : Reader → Type 0
 Fit r = (r .n ≤ mostMachines) × ((r .ups ≤ r .n) × ((r .opened ≤ 2 * mostLinks) × (r .opened % 2 ≡ 0)))
 
-says-fit : (r : Reader) → Says (countsFit r) (Fit r)
+pub says-fit : (r : Reader) → Says (countsFit r) (Fit r)
 says-fit r = says-and (says-le (r .n) mostMachines) (says-and (says-le (r .ups) (r .n)) (says-and (says-le (r .opened) (2 * mostLinks)) (says-eq (r .opened % 2) 0)))
 
 -- what each kind's function asks

@@ -1,7 +1,7 @@
--- What a site file means, record by record, and what the program prints for it.
+-- What a site file means, record by record.
 use mathlib.Core.Bool.{Bool, cond, _&&_, not}
 use mathlib.Core.List.{List, [], _∷_, _++_}
-use Prim.Native.Nat.{ℕ, zero, suc, _+_}
+use Prim.Native.Nat.{ℕ, _+_}
 use lib.ListN.{length}
 use lib.Dec.{leb, ltb, eqb}
 use Rattle.plain.specs.Table.{at}
@@ -15,14 +15,9 @@ use Rattle.tables.specs.Batch.{numbersVerdict}
 use Rattle.tables.specs.Report.{Bytes, bytesOf, machineBytes, linkBytes}
 use Rattle.tables.specs.Outcome.{addVerdict, addOf, reportVerdict}
 use Rattle.sitefile.specs.Record.{known, bodyLength, bodyOf, word}
-use Rattle.sitefile.specs.Text.{reportText, refusalText}
 use Rattle.sitefile.specs.declared.Reader.{Reader}
 use Rattle.sitefile.specs.declared.due.Due.{Due}
 use Rattle.sitefile.specs.declared.due.Due.the-variants as due
-
--- a site file has at most so many bytes
-abbrev pub mostBytes : ℕ
-mostBytes = 16384
 
 -- what has been read: the place of the next record, n (0 before kind 1), the uplinks so far, the tables (none before the last uplink), the
 -- numbers of the links that are not closed
@@ -128,17 +123,3 @@ done file r due.Report = report r
 -- the next record
 unfoldable pub step : List ℕ → Read → FileStep
 step file r = done file r (dueOf file (readerOf r))
-
--- what the next k records print
-unfoldable pub prints : ℕ → List ℕ → Read → List ℕ
-prints zero file r = []
-prints (suc k) file r = elim (step file r) [
-  | reads r′ ↦ prints k file r′
-  | reports r′ o ↦ reportText (r′ .up) o ++ prints k file r′
-  | ends ↦ []
-  | refuses refusal ↦ refusalText refusal
-]
-
--- what the program prints for a file; 13, longer than 16,384 bytes, is looked at first. Each record takes a byte, so there are no more than the file has
-unfoldable pub printed : List ℕ → List ℕ
-printed file = cond (ltb mostBytes (length file)) (refusalText (refusal Fault.Long mostBytes)) (prints (suc (length file)) file begin)

@@ -1,9 +1,11 @@
 -- The next record of a file over lent slices: what it comes to, and every slice as it leaves it.
+use mathlib.Core.Path.{_≡_}
 use mathlib.Core.Bool.{Bool, cond, _&&_}
-use mathlib.Core.List.{List, _++_}
+use mathlib.Core.List.{List}
 use Prim.Native.Nat.{ℕ, _*_, _%_}
-use lib.ListN.{length, take, drop}
+use lib.ListN.{length, take}
 use lib.Dec.{leb, eqb}
+use Rattle.plain.specs.Laid.{laid}
 use Rattle.tables.specs.Tree.{mostMachines}
 use Rattle.tables.specs.Batch.{mostLinks}
 use Rattle.tables.specs.Outcome.{Outcome, outcome}
@@ -25,6 +27,16 @@ pub record Room : Type 0 where
 abbrev pub roomOf : List ℕ → List ℕ → List ℕ → List ℕ → List ℕ → List ℕ → List ℕ → Room
 roomOf up depth group mark batch machines links = record { up = up; tables = tablesOf depth group mark; batch = batch; outputs = bytesOf machines links }
 
+-- as the types of the arrays have it
+pub record Lengths (room : Room) : Type 0 where
+  pub up : length (room .up) ≡ mostMachines
+  pub depth : length (room .tables .depth) ≡ mostMachines
+  pub group : length (room .tables .group) ≡ mostMachines
+  pub mark : length (room .tables .mark) ≡ mostMachines
+  pub batch : length (room .batch) ≡ 2 * mostLinks
+  pub machines : length (room .outputs .machines) ≡ mostMachines
+  pub links : length (room .outputs .links) ≡ mostMachines
+
 -- a reader that a file leads to counts no more than the slices hold, and whole links
 abbrev pub countsFit : Reader → Bool
 countsFit r = leb (r .n) mostMachines && (leb (r .ups) (r .n) && (leb (r .opened) (2 * mostLinks) && eqb (r .opened % 2) 0))
@@ -43,10 +55,7 @@ readOf r room = record {
   opened = take (r .opened) (room .batch);
 }
 
--- a list laid over the front of a slice, and tables over theirs; the rest stays
-abbrev pub laid : List ℕ → List ℕ → List ℕ
-laid l slice = l ++ drop (length l) slice
-
+-- tables laid over the fronts of theirs
 abbrev pub laidTables : Tables → Tables → Tables
 laidTables t slices = tablesOf (laid (t .depth) (slices .depth)) (laid (t .group) (slices .group)) (laid (t .mark) (slices .mark))
 

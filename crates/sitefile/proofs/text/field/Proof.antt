@@ -1,8 +1,0 @@
--- `text::field` meets its contract: a byte, then a text.
-use borrow.Author.Needs.{needs}
-use Rattle.sitefile.proofs.Appending.{byte-then}
-use Rattle.sitefile.proofs.text.field.Statement.{statement}
-use Rattle.sitefile.proofs.text.field.Tie as tie
-
-pub field-spec : {M : Type 1} → statement M
-field-spec = tie.close (tie.spec (λ c κs. search needs) (λ c κs. search needs) (λ c. search needs) (λ c. search byte-then))

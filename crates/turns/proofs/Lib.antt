@@ -1,0 +1,5 @@
+pub mod Worked
+pub mod Fuel
+pub mod Printing
+pub mod Turning
+pub mod Telling

@@ -1,0 +1,4 @@
+pub mod Printed
+pub mod Worked
+pub mod Turn
+pub mod Telling
