@@ -21,8 +21,7 @@ pub fn answer(site: &SiteFile, search: Search) -> Told {
         let chokes = search(&site.up, links);
         told.lines += &report(&site.up, &chokes);
         told.taken_out += links.len();
-        let parted = (0..links.len()).find(|&k| chokes.cross_links[k]);
-        told.choke = told.choke.or(parted.map(|k| links[k]));
+        told.choke = told.choke.or(chokes.cross_links.first().copied());
     }
     if let Some(refusal) = site.refusal {
         told.lines += &format!("R {} {}\n", refusal.code, refusal.value);

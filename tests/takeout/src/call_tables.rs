@@ -49,6 +49,10 @@ fn all_reached(n: usize) -> Vec<Reached> {
         COUNTS[n - 1],
         "tables of {n} machines that histories leave"
     );
+    println!(
+        "takeout: histories leave {count} tables over the {} trees of {n} machines",
+        all.len()
+    );
     all
 }
 
@@ -76,21 +80,10 @@ fn around(reached: &Reached, take: Take) {
         let lent = reached.fresh.with(left);
         let mut reported = lent.clone();
         let _ = Document01.report(&mut reported);
-        let by_taking_out = chokes(&lent.up, links);
-        let bytes: Vec<usize> = by_taking_out
-            .machines
-            .iter()
-            .map(|&byte| usize::from(byte))
-            .collect();
-        let uplinks: Vec<usize> = by_taking_out
-            .uplinks
-            .iter()
-            .map(|&choke| usize::from(choke))
-            .collect();
         assert_eq!(
-            (bytes, uplinks),
+            chokes(&lent.up, links).bytes(),
             (reported.machines, reported.links),
-            "tables and taking out: {lent:?}"
+            "taking out and tables: {lent:?}"
         );
         take(judged(reached, lent.clone(), &EVERY_CALL));
         for ends in tables(2, n).filter(|ends| ends[0] != ends[1]) {
@@ -115,21 +108,21 @@ fn around(reached: &Reached, take: Take) {
 
 /// One entry of one table put to a number beside it or far from it.
 fn spoilt(reached: &Reached, lent: &Lent, take: Take) {
-    for v in 0..lent.up.len() {
+    let n = lent.up.len();
+    let mut put = |change: &dyn Fn(&mut Lent)| {
+        let mut spoilt = lent.clone();
+        change(&mut spoilt);
+        take(judged(reached, spoilt, &EVERY_CALL));
+    };
+    for v in 0..n {
         for depth in [lent.depth[v] + 1, lent.depth[v] + 256, 65_535] {
-            let mut spoilt = lent.clone();
-            spoilt.depth[v] = depth;
-            take(judged(reached, spoilt, &EVERY_CALL));
+            put(&|spoilt| spoilt.depth[v] = depth);
         }
-        for group in [lent.up.len() + 1, lent.group[v] + 256, 65_535] {
-            let mut spoilt = lent.clone();
-            spoilt.group[v] = group;
-            take(judged(reached, spoilt, &EVERY_CALL));
+        for group in [n + 1, lent.group[v] + 256, 65_535] {
+            put(&|spoilt| spoilt.group[v] = group);
         }
         for mark in [3, 4, 255] {
-            let mut spoilt = lent.clone();
-            spoilt.mark[v] = mark;
-            take(judged(reached, spoilt, &EVERY_CALL));
+            put(&|spoilt| spoilt.mark[v] = mark);
         }
     }
 }

@@ -40,8 +40,8 @@ pub const ALL: [Class<Cases>; 5] = [
     },
 ];
 
-/// Two bytes of a case stand outside its brackets, and `trial` takes 65,536 of them; shorter runs are shared out better.
-const CASES_A_RUN: usize = 8_192;
+/// A bracket and the end of its line count as bytes outside brackets, of which `trial` takes 65,536.
+const CASES_A_RUN: usize = 30_000;
 
 /// How many runs of the program go on at a time.
 const RUNS_AT_A_TIME: usize = 2;
@@ -110,10 +110,18 @@ impl Program {
             let run = self.runs.pop_front().expect("more runs go on than that");
             match run.join() {
                 Ok(Ok(codes)) => self.codes.add(&codes),
-                Ok(Err(failure)) => failure.end(),
-                Err(_) => Failure::Unable("a comparison broke off".to_string()).end(),
+                Ok(Err(failure)) => self.end(failure),
+                Err(_) => self.end(Failure::Unable("a comparison broke off".to_string())),
             }
         }
+    }
+
+    /// Ends takeout, after the runs that still go on: no program is left behind.
+    fn end(&mut self, failure: Failure) -> ! {
+        for run in self.runs.drain(..) {
+            let _ = run.join();
+        }
+        failure.end()
     }
 }
 
@@ -174,13 +182,13 @@ fn output(words: &[String], text: String, expected: usize) -> io::Result<Vec<u8>
         .spawn()?;
     let mut stdin = child.stdin.take().expect("standard input is a pipe");
     let stdout = child.stdout.take().expect("standard output is a pipe");
+    let mut stdout = stdout.take((expected + EXCESS) as u64);
     // A program that stops reading shows by a missing answer.
     let feeder = thread::spawn(move || {
         let _ = stdin.write_all(text.as_bytes());
     });
     let mut out = Vec::new();
-    let limit = (expected + EXCESS) as u64;
-    let read = stdout.take(limit).read_to_end(&mut out);
+    let read = stdout.read_to_end(&mut out);
     // It may still be printing; what more would come says nothing, nor does how it ends.
     let _ = child.kill();
     let _ = child.wait();

@@ -8,8 +8,17 @@ pub struct Chokes {
     pub machines: Vec<u8>,
     /// For each machine: whether taking out its uplink's cable parts its ends. Never so for the hub, which has no uplink.
     pub uplinks: Vec<bool>,
-    /// The same for each cross link, one of two over the same pair like any other.
-    pub cross_links: Vec<bool>,
+    /// The cross links whose ends are parted when that one cable is taken out. The other cables over the same pair stay.
+    pub cross_links: Vec<Link>,
+}
+
+impl Chokes {
+    /// The machine bytes and the link bytes that a report has for them.
+    pub fn bytes(&self) -> (Vec<usize>, Vec<usize>) {
+        let machines = self.machines.iter().map(|&byte| usize::from(byte));
+        let uplinks = self.uplinks.iter().map(|&choke| usize::from(choke));
+        (machines.collect(), uplinks.collect())
+    }
 }
 
 /// A way to find the chokes of the tree `up` with cross links `links`.
@@ -28,10 +37,9 @@ pub fn chokes(up: &[usize], links: &[Link]) -> Chokes {
     let uplinks = (0..n)
         .map(|v| up[v] != v && !site.joined_without_cable(v, (v, up[v])))
         .collect();
-    let cross_links = links
-        .iter()
-        .enumerate()
-        .map(|(k, &ends)| !site.joined_without_cable(n + k, ends))
+    let cross_links = (0..links.len())
+        .filter(|&k| !site.joined_without_cable(n + k, links[k]))
+        .map(|k| links[k])
         .collect();
     Chokes {
         machines,

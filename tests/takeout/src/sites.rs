@@ -64,7 +64,7 @@ fn mixed(mut links: Vec<Link>, chance: &mut Chance) -> Vec<Link> {
 }
 
 /// All pairs of different machines, each once.
-pub fn pairs(n: usize) -> Vec<Link> {
+fn pairs(n: usize) -> Vec<Link> {
     (0..n).flat_map(|b| (0..b).map(move |a| (a, b))).collect()
 }
 
