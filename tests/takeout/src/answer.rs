@@ -1,23 +1,36 @@
 //! What `chokes` prints for a site file.
 
 use crate::file::{Link, SiteFile};
-use crate::search::Search;
+use crate::search::{Chokes, Search};
 
-/// The lines of every report and then of the refusal, if there is one.
-pub fn answer(site: &SiteFile, search: Search) -> String {
-    let mut lines = String::new();
-    for &links in &site.reports {
-        lines += &report(&site.up, &site.links[..links], search);
-    }
-    if let Some(refusal) = site.refusal {
-        lines += &format!("R {} {}\n", refusal.code, refusal.value);
-    }
-    lines
+/// What a site file is answered, and what was found of its cross links.
+#[derive(Default)]
+pub struct Told {
+    /// The lines of every report and then of the refusal, if there is one.
+    pub lines: String,
+    /// How many cross links were taken out, over all reports.
+    pub taken_out: usize,
+    /// One that is a choke, if there is any: document 01 says that there never is.
+    pub choke: Option<Link>,
 }
 
-/// The lines of a report on the site of tree `up` with cross links `links`.
-fn report(up: &[usize], links: &[Link], search: Search) -> String {
-    let chokes = search(up, links);
+pub fn answer(site: &SiteFile, search: Search) -> Told {
+    let mut told = Told::default();
+    for &links in &site.reports {
+        let links = &site.links[..links];
+        let chokes = search(&site.up, links);
+        told.lines += &report(&site.up, &chokes);
+        told.taken_out += links.len();
+        told.choke = told.choke.or(chokes.cross_links.first().copied());
+    }
+    if let Some(refusal) = site.refusal {
+        told.lines += &format!("R {} {}\n", refusal.code, refusal.value);
+    }
+    told
+}
+
+/// The lines of a report on a site of tree `up`.
+fn report(up: &[usize], chokes: &Chokes) -> String {
     let machines: Vec<String> = (0..up.len())
         .filter(|&v| chokes.machines[v] != 0)
         .map(|v| format!("M {v} {}\n", chokes.machines[v]))

@@ -1,40 +1,36 @@
 //! Setting the program under test against takeout's own answers, file by file.
 
-use std::io::{self, BufRead, BufReader, BufWriter, Read, Write};
-use std::process::{self, Child, ChildStdin, ChildStdout, Command, Stdio};
+use std::io::{BufRead, BufReader, BufWriter, Read, Write};
+use std::process::{Child, ChildStdin, ChildStdout, Command, Stdio};
 use std::thread;
 
-use crate::answer::answer;
+use crate::answer::{answer, Told};
+use crate::class::{grouped, Class, Codes};
 use crate::draft::Visit;
 use crate::file::{self, SiteFile};
 use crate::search::chokes;
+use crate::verdict::{judge, Failure, Verdict};
 use crate::{damaged_links, damaged_records, damaged_trees, sites};
 
-/// A sort of files.
-#[derive(Clone, Copy)]
-pub struct Class {
-    /// What its files are called. It is picked by the first word.
-    things: &'static str,
-    /// Makes the same files in the same order each time.
-    files: fn(Visit),
-}
+/// Makes files and hands each on.
+pub type Files = fn(Visit);
 
-pub const ALL: [Class; 4] = [
+pub const ALL: [Class<Files>; 4] = [
     Class {
         things: "small sites",
-        files: sites::small,
+        each: sites::small,
     },
     Class {
         things: "random sites",
-        files: sites::random,
+        each: sites::random,
     },
     Class {
         things: "damaged files",
-        files: damaged,
+        each: damaged,
     },
     Class {
         things: "large sites and files",
-        files: large,
+        each: large,
     },
 ];
 
@@ -53,26 +49,14 @@ fn large(visit: Visit) {
     damaged_links::large(visit);
 }
 
-/// The classes of a list of names with commas between; none if a name is unknown.
-pub fn classes_named(names: &str) -> Option<Vec<Class>> {
-    let first_word = |class: &Class| class.things.split(' ').next();
-    names
-        .split(',')
-        .map(|name| {
-            ALL.into_iter()
-                .find(|class| first_word(class) == Some(name))
-        })
-        .collect()
-}
-
-/// Feeds the files of the classes to a program and ends with status 1 at the first answer that differs.
-pub fn compare(classes: &[Class], cmd: &str, args: &[&str]) -> io::Result<()> {
+/// Feeds the files of the classes to a program and ends at the first answer that differs.
+pub fn compare(classes: &[Class<Files>], cmd: &str, args: &[&str]) {
     let mut child = Command::new(cmd)
         .args(args)
         .stdin(Stdio::piped())
         .stdout(Stdio::piped())
         .spawn()
-        .map_err(|error| io::Error::new(error.kind(), format!("{cmd}: {error}")))?;
+        .unwrap_or_else(|error| Failure::Unable(format!("{cmd}: {error}")).end());
     let stdin = child.stdin.take().expect("standard input is a pipe");
     let stdout = child.stdout.take().expect("standard output is a pipe");
     // Both sides make the files anew, so nothing is kept between them, and the program may read as far ahead of its answers
@@ -83,45 +67,56 @@ pub fn compare(classes: &[Class], cmd: &str, args: &[&str]) -> io::Result<()> {
     let mut agreed = String::new();
     for class in classes {
         let mut tally = Tally::default();
-        (class.files)(&mut |bytes| {
+        (class.each)(&mut |bytes| {
             let site = file::read(bytes);
-            let expected = answer(&site, chokes) + ".\n";
-            let came = next_answer(&mut out, expected.len());
-            if came != expected.as_bytes() {
-                let place = grouped(tally.files + 1);
-                fail(
-                    &mut child,
-                    &format!(
-                        "file {place} of the {} differs\n{}",
-                        class.things,
-                        show(bytes, &expected, &came)
-                    ),
-                );
+            let told = answer(&site, chokes);
+            let came = next_answer(&mut out, told.lines.len());
+            let place = format!("file {} of the {}", grouped(tally.files + 1), class.things);
+            if let Some(failure) = failure(bytes, &told, &came, &place) {
+                end(&mut child, failure);
             }
-            tally.count(&site);
+            tally.count(&site, &told);
         });
         agreed += &tally.line(class);
     }
     let more = next_answer(&mut out, 0);
     if !more.is_empty() {
         let more = String::from_utf8_lossy(&more);
-        fail(
-            &mut child,
-            &format!("more came after the last answer:\n{more}"),
-        );
+        let what = format!("more came after the last answer:\n{more}");
+        end(&mut child, Failure::Disagreement(what));
     }
     // The program has ended its output; it is waited for, and how it ended says nothing.
     let _ = feeder.join();
     let _ = child.wait();
     print!("{agreed}");
-    Ok(())
+}
+
+/// What is wrong with what came for a file, if anything is.
+fn failure(bytes: &[u8], told: &Told, came: &[u8], place: &str) -> Option<Failure> {
+    if let Some((a, b)) = told.choke {
+        return Some(Failure::Disagreement(format!(
+            "{place}: the cross link {a}, {b} is a choke, and none ever is\nfile: {}",
+            hex(bytes)
+        )));
+    }
+    let expected = told.lines.clone() + ".\n";
+    match judge(expected.as_bytes(), came) {
+        Verdict::Agrees => None,
+        Verdict::BreaksOff => Some(Failure::Unable(format!(
+            "the program ended before its answer to {place} did"
+        ))),
+        Verdict::Differs => Some(Failure::Disagreement(format!(
+            "{place}\n{}",
+            show(bytes, &expected, came)
+        ))),
+    }
 }
 
 /// Writes the stream. A program that stops reading shows by a missing answer.
-fn feed(classes: &[Class], stdin: ChildStdin) {
+fn feed(classes: &[Class<Files>], stdin: ChildStdin) {
     let mut stream = BufWriter::with_capacity(1 << 16, stdin);
     for class in classes {
-        (class.files)(&mut |file| {
+        (class.each)(&mut |file| {
             let length = u16::try_from(file.len()).expect("the stream gives lengths in 16 bits");
             let _ = stream.write_all(&length.to_le_bytes());
             let _ = stream.write_all(file);
@@ -130,11 +125,10 @@ fn feed(classes: &[Class], stdin: ChildStdin) {
 }
 
 /// Ends the program under test, which may be in the middle of the stream, and takeout with it.
-fn fail(child: &mut Child, why: &str) {
+fn end(child: &mut Child, failure: Failure) -> ! {
     let _ = child.kill();
     let _ = child.wait();
-    print!("takeout: {why}");
-    process::exit(1);
+    failure.end()
 }
 
 /// How much is taken beyond the length expected, to show, from a program that does not end its answer.
@@ -161,45 +155,33 @@ fn next_answer(out: &mut BufReader<ChildStdout>, expected: usize) -> Vec<u8> {
 struct Tally {
     files: usize,
     reports: usize,
-    /// How many files each code refused; at 0 the sound ones.
-    codes: [usize; 14],
+    cross_links: usize,
+    codes: Codes,
 }
 
 impl Tally {
-    fn count(&mut self, site: &SiteFile) {
+    fn count(&mut self, site: &SiteFile, told: &Told) {
         self.files += 1;
         self.reports += site.reports.len();
-        self.codes[site.refusal.map_or(0, |refusal| usize::from(refusal.code))] += 1;
+        self.cross_links += told.taken_out;
+        self.codes
+            .count(site.refusal.map_or(0, |refusal| refusal.code));
     }
 
-    fn line(&self, class: &Class) -> String {
-        let mut line = format!(
-            "takeout: {} {} agreed ({} reports; {} sound",
+    fn line(&self, class: &Class<Files>) -> String {
+        format!(
+            "takeout: {} {} agreed ({} reports; {} cross links taken out, none a choke; {})\n",
             grouped(self.files),
             class.things,
             grouped(self.reports),
-            grouped(self.codes[0])
-        );
-        for (code, &files) in self.codes.iter().enumerate().skip(1) {
-            if files > 0 {
-                line += &format!(", {} refused with {code}", grouped(files));
-            }
-        }
-        line + ")\n"
-    }
-}
-
-/// A number with a comma before every three last digits.
-fn grouped(number: usize) -> String {
-    match number {
-        0..1_000 => number.to_string(),
-        _ => format!("{},{:03}", grouped(number / 1_000), number % 1_000),
+            grouped(self.cross_links),
+            self.codes.line()
+        )
     }
 }
 
 /// A file and its two answers.
 fn show(bytes: &[u8], expected: &str, came: &[u8]) -> String {
-    let hex: Vec<String> = bytes.iter().map(|byte| format!("{byte:02x}")).collect();
     let whole = came == b".\n" || came.ends_with(b"\n.\n");
     let ended = if whole {
         ""
@@ -209,7 +191,12 @@ fn show(bytes: &[u8], expected: &str, came: &[u8]) -> String {
     format!(
         "file, {} bytes: {}\nexpected:\n{expected}came:\n{}{ended}",
         bytes.len(),
-        hex.join(" "),
+        hex(bytes),
         String::from_utf8_lossy(came),
     )
+}
+
+fn hex(bytes: &[u8]) -> String {
+    let hex: Vec<String> = bytes.iter().map(|byte| format!("{byte:02x}")).collect();
+    hex.join(" ")
 }

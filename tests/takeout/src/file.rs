@@ -10,9 +10,9 @@ pub const BATCH_LIMIT: usize = 1_024;
 /// A cross link, by its two ends.
 pub type Link = (usize, usize);
 
-#[derive(Clone, Copy)]
+#[derive(Clone, Copy, Debug)]
 pub struct Refusal {
-    pub code: u8,
+    pub code: usize,
     pub value: usize,
 }
 
@@ -155,6 +155,6 @@ fn number(body: &[u8], index: usize) -> usize {
     usize::from(u16::from_le_bytes([body[2 * index], body[2 * index + 1]]))
 }
 
-fn refuse(code: u8, value: usize) -> Result<(), Refusal> {
+pub fn refuse(code: usize, value: usize) -> Result<(), Refusal> {
     Err(Refusal { code, value })
 }

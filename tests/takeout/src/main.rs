@@ -1,69 +1,99 @@
-//! takeout: an independent test program for `labels` and `chokes`.
+//! takeout: an independent test program for `labels`, `chokes` and `trial`.
 //!
 //! It is written from document 01 alone. It reads a site file by its own reader and finds the chokes by taking out each
-//! machine and each uplink's cable and searching what is left, so it shares neither code nor method with what it tests.
+//! machine and each cable and searching what is left, and it has the three calls by a plain reading of its own. So it shares
+//! neither code nor method with what it tests.
 
 mod answer;
+mod call_histories;
+mod call_tables;
+mod call_trees;
+mod calls;
 mod chance;
+mod class;
 mod compare;
 mod damaged_links;
 mod damaged_records;
 mod damaged_trees;
 mod draft;
 mod file;
+mod lent;
+mod reached;
+mod reading;
+mod rules;
 mod search;
 mod sites;
 mod stand_in;
+mod stand_in_calls;
+mod text;
+mod verdict;
 
 use std::io::{self, Read, Write};
-use std::process::ExitCode;
+
+use verdict::Failure;
 
 const USAGE: &str = "\
-usage: takeout compare [--classes small,random,damaged,large] CMD [ARG..]
-       takeout expect < SITE-FILE
-       takeout wrong swap-reasons|doubled-uplink|ten-for-twelve < STREAM";
+usage: takeout compare [--classes small,random,damaged,large] CMD [ARG..]   CMD answers a stream of site files
+       takeout calls [--classes trees,small,histories,large,tables] CMD [ARG..]   CMD answers the text of trial
+       takeout expect < SITE-FILE     what is to be printed for it
+       takeout expect-calls < TEXT    the same
+       takeout wrong [FAULT < STREAM]       a faulty program for compare; without a word the faults
+       takeout wrong-calls [FAULT < TEXT]   the same for calls
+status: 0 all agreed, 1 a disagreement was printed, 2 nothing can be said";
 
-fn main() -> ExitCode {
+fn main() {
     let words: Vec<String> = std::env::args().skip(1).collect();
     let words: Vec<&str> = words.iter().map(String::as_str).collect();
-    match words[..] {
+    if let Err(error) = done(&words) {
+        Failure::Unable(error.to_string()).end();
+    }
+}
+
+/// What the words ask for.
+fn done(words: &[&str]) -> io::Result<()> {
+    match *words {
         ["compare", "--classes", names, cmd, ref args @ ..] => {
-            match compare::classes_named(names) {
-                Some(classes) => done(compare::compare(&classes, cmd, args)),
-                None => usage(),
-            }
+            let classes = class::named(&compare::ALL, names);
+            compare::compare(&classes.unwrap_or_else(|| unknown(names)), cmd, args);
         }
         ["compare", cmd, ref args @ ..] if cmd != "--classes" => {
-            done(compare::compare(&compare::ALL, cmd, args))
+            compare::compare(&compare::ALL, cmd, args);
         }
-        ["expect"] => done(expect()),
-        ["wrong", name] => match stand_in::named(name) {
-            Some(faulty) => done(stand_in::serve(faulty)),
-            None => usage(),
-        },
-        _ => usage(),
+        ["calls", "--classes", names, cmd, ref args @ ..] => {
+            let classes = class::named(&calls::ALL, names);
+            calls::calls(&classes.unwrap_or_else(|| unknown(names)), cmd, args);
+        }
+        ["calls", cmd, ref args @ ..] if cmd != "--classes" => {
+            calls::calls(&calls::ALL, cmd, args);
+        }
+        ["expect"] => return expect(),
+        ["expect-calls"] => return stand_in_calls::serve(&reading::Document01),
+        ["wrong"] => println!("{}", stand_in::names().join("\n")),
+        ["wrong", name] => {
+            let faulty = stand_in::named(name);
+            return stand_in::serve(faulty.unwrap_or_else(|| unknown(name)));
+        }
+        ["wrong-calls"] => println!("{}", stand_in_calls::names().join("\n")),
+        ["wrong-calls", name] => {
+            let faulty = stand_in_calls::named(name);
+            return stand_in_calls::serve(&*faulty.unwrap_or_else(|| unknown(name)));
+        }
+        _ => unknown(&words.join(" ")),
     }
+    Ok(())
 }
 
 /// Prints what `chokes` has to print for the site file on standard input.
 fn expect() -> io::Result<()> {
     let mut bytes = Vec::new();
     io::stdin().read_to_end(&mut bytes)?;
-    let lines = answer::answer(&file::read(&bytes), search::chokes);
-    io::stdout().write_all(lines.as_bytes())
+    let told = answer::answer(&file::read(&bytes), search::chokes);
+    io::stdout().write_all(told.lines.as_bytes())
 }
 
-fn usage() -> ExitCode {
-    eprintln!("{USAGE}");
-    ExitCode::from(2)
-}
-
-fn done(outcome: io::Result<()>) -> ExitCode {
-    match outcome {
-        Ok(()) => ExitCode::SUCCESS,
-        Err(error) => {
-            eprintln!("takeout: {error}");
-            ExitCode::from(2)
-        }
-    }
+fn unknown(words: &str) -> ! {
+    Failure::Unable(format!(
+        "nothing is known by the words \"{words}\"\n{USAGE}"
+    ))
+    .end()
 }

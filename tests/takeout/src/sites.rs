@@ -83,7 +83,7 @@ pub fn tables(length: usize, bound: usize) -> impl Iterator<Item = Vec<usize>> {
 }
 
 /// Every up table of n machines that is a tree, with every machine as its hub.
-fn trees(n: usize) -> Vec<Vec<usize>> {
+pub fn trees(n: usize) -> Vec<Vec<usize>> {
     let trees: Vec<_> = tables(n, n).filter(|up| check_tree(up).is_ok()).collect();
     assert_eq!(
         trees.len(),
@@ -182,10 +182,10 @@ pub fn by_chance(n: usize, chance: &mut Chance) -> Draft {
 }
 
 /// The up of machine v, which is not 0, among n machines, where the hub is 0.
-type Shape = fn(usize, usize, &mut Chance) -> usize;
+pub type Shape = fn(usize, usize, &mut Chance) -> usize;
 
-const PATH: Shape = |v, _, _| v - 1;
-const STAR: Shape = |_, _, _| 0;
+pub const PATH: Shape = |v, _, _| v - 1;
+pub const STAR: Shape = |_, _, _| 0;
 /// A path with legs.
 const CATERPILLAR: Shape = |v, n, chance| match n.div_ceil(2) {
     half if v < half => v - 1,
@@ -194,13 +194,13 @@ const CATERPILLAR: Shape = |v, n, chance| match n.div_ceil(2) {
 /// A path with a star at its foot.
 const BROOM: Shape = |v, n, _| (v - 1).min(n.div_ceil(2));
 /// Each machine below one of the latest few: deep, with short branches.
-const NEAR: Shape = |v, _, chance| v - chance.between(1, v.min(4));
+pub const NEAR: Shape = |v, _, chance| v - chance.between(1, v.min(4));
 /// Each machine below any earlier one.
-const ANY: Shape = |v, _, chance| chance.below(v);
-const SHAPES: [Shape; 6] = [PATH, STAR, CATERPILLAR, BROOM, NEAR, ANY];
+pub const ANY: Shape = |v, _, chance| chance.below(v);
+pub const SHAPES: [Shape; 6] = [PATH, STAR, CATERPILLAR, BROOM, NEAR, ANY];
 
 /// An up table of n machines in the shape asked for. Half the time the numbers rise from the hub, otherwise they are shuffled.
-fn tree(shape: Shape, n: usize, chance: &mut Chance) -> Vec<usize> {
+pub fn tree(shape: Shape, n: usize, chance: &mut Chance) -> Vec<usize> {
     let rising: Vec<usize> = (0..n)
         .map(|v| if v == 0 { 0 } else { shape(v, n, chance) })
         .collect();
@@ -216,7 +216,7 @@ fn tree(shape: Shape, n: usize, chance: &mut Chance) -> Vec<usize> {
 }
 
 /// A sound link of a site of two machines or more: between any two, or between near ones, or over an uplink.
-fn link(up: &[usize], chance: &mut Chance) -> Link {
+pub fn link(up: &[usize], chance: &mut Chance) -> Link {
     let n = up.len();
     let climb = |from: usize, steps: usize| (0..steps).fold(from, |here, _| up[here]);
     let a = chance.below(n);

@@ -9,13 +9,24 @@ use crate::search::{chokes, Chokes};
 /// What a faulty program prints for a site file.
 type Faulty = fn(&[u8]) -> String;
 
+const FAULTY: [(&str, Faulty); 4] = [
+    ("swap-reasons", |file| {
+        answer(&file::read(file), reasons_swapped).lines
+    }),
+    ("doubled-uplink", |file| {
+        answer(&file::read(file), uplinks_undoubled).lines
+    }),
+    ("ten-for-twelve", ten_for_twelve),
+    ("cross-link", cross_link_named),
+];
+
+pub fn names() -> Vec<&'static str> {
+    FAULTY.iter().map(|&(name, _)| name).collect()
+}
+
 pub fn named(name: &str) -> Option<Faulty> {
-    match name {
-        "swap-reasons" => Some(|file| answer(&file::read(file), reasons_swapped)),
-        "doubled-uplink" => Some(|file| answer(&file::read(file), uplinks_undoubled)),
-        "ten-for-twelve" => Some(ten_for_twelve),
-        _ => None,
-    }
+    let (_, faulty) = FAULTY.iter().find(|(other, _)| *other == name)?;
+    Some(*faulty)
 }
 
 /// Answers each file of the stream on standard input, until the stream ends.
@@ -57,5 +68,12 @@ fn ten_for_twelve(file: &[u8]) -> String {
             value: file.len(),
         };
     }
-    answer(&site, chokes)
+    answer(&site, chokes).lines
+}
+
+/// The latest cross link is named as if it were a choke.
+fn cross_link_named(file: &[u8]) -> String {
+    let site = file::read(file);
+    let named = site.links.last().map(|(a, b)| format!("L {a} {b}\n"));
+    named.unwrap_or_default() + &answer(&site, chokes).lines
 }

@@ -1,0 +1,197 @@
+//! Setting the calls against takeout's own reading, through the text of `trial`: every line printed is compared.
+
+use std::collections::VecDeque;
+use std::io::{self, Read, Write};
+use std::process::{Command, Stdio};
+use std::thread::{self, JoinHandle};
+
+use crate::class::{grouped, Class, Codes};
+use crate::reading::Document01;
+use crate::text::Case;
+use crate::verdict::{judge, Failure, Verdict};
+use crate::{call_histories, call_tables, call_trees};
+
+/// Takes each case that a generator makes.
+pub type Take<'a> = &'a mut dyn FnMut(Case);
+
+/// Makes cases and hands each on.
+pub type Cases = fn(Take);
+
+pub const ALL: [Class<Cases>; 5] = [
+    Class {
+        things: "trees and lengths",
+        each: call_trees::all,
+    },
+    Class {
+        things: "small tables",
+        each: call_tables::small,
+    },
+    Class {
+        things: "histories by chance",
+        each: call_histories::all,
+    },
+    Class {
+        things: "large sites",
+        each: call_histories::large,
+    },
+    Class {
+        things: "tables of four machines",
+        each: call_tables::of_four,
+    },
+];
+
+/// A bracket and the end of its line count as bytes outside brackets, of which `trial` takes 65,536.
+const CASES_A_RUN: usize = 30_000;
+
+/// How many runs of the program go on at a time.
+const RUNS_AT_A_TIME: usize = 2;
+
+/// Runs the cases of the classes through a program and ends at the first line that differs.
+pub fn calls(classes: &[Class<Cases>], cmd: &str, args: &[&str]) {
+    let mut agreed = String::new();
+    for &class in classes {
+        let mut program = Program {
+            words: [&[cmd], args]
+                .concat()
+                .iter()
+                .map(|word| word.to_string())
+                .collect(),
+            things: class.things,
+            next: Vec::new(),
+            runs: VecDeque::new(),
+            cases: 0,
+            codes: Codes::default(),
+        };
+        (class.each)(&mut |case| program.take(case));
+        program.run();
+        program.wait(0);
+        agreed += &format!(
+            "takeout: {} {} agreed ({})\n",
+            grouped(program.cases),
+            class.things,
+            program.codes.line()
+        );
+    }
+    print!("{agreed}");
+}
+
+/// The program under test with the cases of a class, cut into runs.
+struct Program {
+    words: Vec<String>,
+    things: &'static str,
+    /// The cases of the next run.
+    next: Vec<Case>,
+    /// The runs that go on, the earliest first, each with the codes of its answers.
+    runs: VecDeque<JoinHandle<Result<Codes, Failure>>>,
+    cases: usize,
+    codes: Codes,
+}
+
+impl Program {
+    fn take(&mut self, case: Case) {
+        self.next.push(case);
+        if self.next.len() == CASES_A_RUN {
+            self.run();
+        }
+    }
+
+    fn run(&mut self) {
+        self.wait(RUNS_AT_A_TIME - 1);
+        let (words, things, before) = (self.words.clone(), self.things, self.cases);
+        let cases = std::mem::take(&mut self.next);
+        self.cases += cases.len();
+        let run = thread::spawn(move || compare(&words, &cases, things, before));
+        self.runs.push_back(run);
+    }
+
+    /// Waits until at most so many runs go on.
+    fn wait(&mut self, most: usize) {
+        while self.runs.len() > most {
+            let run = self.runs.pop_front().expect("more runs go on than that");
+            match run.join() {
+                Ok(Ok(codes)) => self.codes.add(&codes),
+                Ok(Err(failure)) => self.end(failure),
+                Err(_) => self.end(Failure::Unable("a comparison broke off".to_string())),
+            }
+        }
+    }
+
+    /// Ends takeout, after the runs that still go on: no program is left behind.
+    fn end(&mut self, failure: Failure) -> ! {
+        for run in self.runs.drain(..) {
+            let _ = run.join();
+        }
+        failure.end()
+    }
+}
+
+/// One run: a line for each case, and the codes of the answers.
+fn compare(
+    words: &[String],
+    cases: &[Case],
+    things: &str,
+    before: usize,
+) -> Result<Codes, Failure> {
+    let mut text = String::new();
+    let mut lines = Vec::new();
+    let mut codes = Codes::default();
+    for case in cases {
+        text += &(case.text() + "\n");
+        let (line, came) = case.printed(&Document01);
+        lines.push(line + "\n");
+        came.into_iter().for_each(|code| codes.count(code));
+    }
+    let length = lines.iter().map(String::len).sum();
+    let out = output(words, text, length)
+        .map_err(|error| Failure::Unable(format!("{}: {error}", words[0])))?;
+    let mut rest = &out[..];
+    for (place, (case, line)) in cases.iter().zip(&lines).enumerate() {
+        let end = rest.iter().position(|&byte| byte == b'\n');
+        let (came, after) = rest.split_at(end.map_or(rest.len(), |end| end + 1));
+        let place = format!("case {} of the {things}", grouped(before + place + 1));
+        match judge(line.as_bytes(), came) {
+            Verdict::Agrees => rest = after,
+            Verdict::BreaksOff => {
+                let why = format!("the program ended before its answer to {place} did");
+                return Err(Failure::Unable(why));
+            }
+            Verdict::Differs => {
+                let (text, came) = (case.text(), String::from_utf8_lossy(came));
+                let what = format!("{place}\n{text}\nexpected:\n{line}came:\n{came}");
+                return Err(Failure::Disagreement(what));
+            }
+        }
+    }
+    if !rest.is_empty() {
+        let more = String::from_utf8_lossy(rest);
+        let what = format!("more came after the last of the {things}:\n{more}");
+        return Err(Failure::Disagreement(what));
+    }
+    Ok(codes)
+}
+
+/// How much is taken beyond the length expected, to show, from a program that prints too much.
+const EXCESS: usize = 2_000;
+
+/// What a program prints for a text.
+fn output(words: &[String], text: String, expected: usize) -> io::Result<Vec<u8>> {
+    let mut child = Command::new(&words[0])
+        .args(&words[1..])
+        .stdin(Stdio::piped())
+        .stdout(Stdio::piped())
+        .spawn()?;
+    let mut stdin = child.stdin.take().expect("standard input is a pipe");
+    let stdout = child.stdout.take().expect("standard output is a pipe");
+    let mut stdout = stdout.take((expected + EXCESS) as u64);
+    // A program that stops reading shows by a missing answer.
+    let feeder = thread::spawn(move || {
+        let _ = stdin.write_all(text.as_bytes());
+    });
+    let mut out = Vec::new();
+    let read = stdout.read_to_end(&mut out);
+    // It may still be printing; what more would come says nothing, nor does how it ends.
+    let _ = child.kill();
+    let _ = child.wait();
+    let _ = feeder.join();
+    read.map(|_| out)
+}

@@ -1,0 +1,169 @@
+//! Stand-ins for `trial` that answer its text by takeout's own reading, each with a fault: `calls` has to catch them.
+
+use std::io::{self, BufWriter, Read, Write};
+
+use crate::file::{refuse, Refusal};
+use crate::lent::{line, Lent};
+use crate::reading::{Document01, Reading};
+use crate::rules::{Rule, RULES};
+use crate::text::{self, Part};
+
+/// The names of all faulty readings. Every rule behind code 6 is left out by one.
+pub fn names() -> Vec<String> {
+    let others = OTHERS.iter().map(|(name, _)| name.to_string());
+    let rules = RULES.iter().map(|(rule, _)| without(rule));
+    others.chain(rules).collect()
+}
+
+pub fn named(name: &str) -> Option<Box<dyn Reading>> {
+    if let Some(place) = RULES.iter().position(|(rule, _)| without(rule) == name) {
+        return Some(Box::new(RuleLeftOut(place)));
+    }
+    let (_, make) = OTHERS.iter().find(|(other, _)| *other == name)?;
+    Some(make())
+}
+
+fn without(rule: &str) -> String {
+    format!("no-{rule}-rule")
+}
+
+/// Answers the text on standard input.
+pub fn serve(reading: &dyn Reading) -> io::Result<()> {
+    let mut text = Vec::new();
+    io::stdin().read_to_end(&mut text)?;
+    let mut out = BufWriter::new(io::stdout().lock());
+    for part in text::read(&text) {
+        match part {
+            Part::Plain(byte) => out.write_all(&[byte])?,
+            Part::Site(case) => out.write_all(case.printed(reading).0.as_bytes())?,
+        }
+    }
+    out.flush()
+}
+
+type Make = fn() -> Box<dyn Reading>;
+
+const OTHERS: [(&str, Make); 9] = [
+    ("nine-before-eight", || Box::new(NineBeforeEight)),
+    ("odd-length-taken", || Box::new(OddLengthTaken)),
+    ("last-slice-named", || Box::new(LastSliceNamed)),
+    ("hub-depth-one", || Box::new(HubDepthOne)),
+    ("rise-one-too-much", || Box::new(RiseOneTooMuch)),
+    ("greatest-name", || Box::new(GreatestName)),
+    ("good-links-first", || Box::new(GoodLinksFirst)),
+    ("carried-at-w", || Box::new(CarriedAtW)),
+    ("stops-at-ringed", || Box::new(StopsAtRinged)),
+];
+
+/// One rule behind code 6 is not looked at.
+struct RuleLeftOut(usize);
+
+impl Reading for RuleLeftOut {
+    fn rules(&self) -> Vec<Rule> {
+        let mut rules = Document01.rules();
+        rules.remove(self.0);
+        rules
+    }
+}
+
+/// Equal ends are looked for before ends out of range.
+struct NineBeforeEight;
+
+impl Reading for NineBeforeEight {
+    fn check_link(&self, n: usize, index: usize, a: usize, b: usize) -> Result<(), Refusal> {
+        if a == b {
+            return refuse(9, index);
+        }
+        Document01.check_link(n, index, a, b)
+    }
+}
+
+/// A number left over at the end of a batch is passed over.
+struct OddLengthTaken;
+
+impl Reading for OddLengthTaken {
+    fn check_batch(&self, lent: &mut Lent, batch: &[usize]) -> Result<(), Refusal> {
+        let whole = batch.len() / 2 * 2;
+        Document01.check_batch(lent, &batch[..whole])
+    }
+}
+
+/// Of two slices of a wrong length the later is named.
+struct LastSliceNamed;
+
+impl Reading for LastSliceNamed {
+    fn check_lengths(&self, n: usize, slices: &[&[usize]]) -> Result<(), Refusal> {
+        match slices.iter().rposition(|slice| slice.len() != n) {
+            Some(place) => refuse(2, place + 1),
+            None => Ok(()),
+        }
+    }
+}
+
+/// Depths count machines and not steps.
+struct HubDepthOne;
+
+impl Reading for HubDepthOne {
+    fn steps(&self, up: &[usize], v: usize) -> usize {
+        line(up, v).len()
+    }
+}
+
+struct RiseOneTooMuch;
+
+impl Reading for RiseOneTooMuch {
+    fn rise(&self, before: &[usize], after: &[usize]) -> usize {
+        Document01.rise(before, after) + 1
+    }
+}
+
+/// A group is named by its greatest machine.
+struct GreatestName;
+
+impl Reading for GreatestName {
+    fn name(&self, members: &[usize]) -> usize {
+        *members.iter().max().expect("a group has a member")
+    }
+}
+
+/// The good links before a bad one are used.
+struct GoodLinksFirst;
+
+impl Reading for GoodLinksFirst {
+    fn check_batch(&self, lent: &mut Lent, batch: &[usize]) -> Result<(), Refusal> {
+        let outcome = Document01.check_batch(lent, batch);
+        if let Err(Refusal {
+            code: 8 | 9,
+            value: index,
+        }) = outcome
+        {
+            for ends in batch[..2 * index].chunks_exact(2) {
+                self.link(lent, ends[0], ends[1]);
+            }
+        }
+        outcome
+    }
+}
+
+/// The paper's words taken literally: whatever is on a ring is safe where the ring's meeting machine is not its parent, and
+/// the meeting machine itself is on the ring.
+struct CarriedAtW;
+
+impl Reading for CarriedAtW {
+    fn raise(&self, lent: &mut Lent, arm: &[usize], w: usize) {
+        Document01.raise(lent, arm, w);
+        if lent.up[w] != w {
+            lent.mark[w] = 2;
+        }
+    }
+}
+
+/// The way up ends at the first machine that is ringed already.
+struct StopsAtRinged;
+
+impl Reading for StopsAtRinged {
+    fn raise(&self, lent: &mut Lent, arm: &[usize], w: usize) {
+        let fresh = arm.iter().take_while(|&&x| lent.mark[x] == 0).count();
+        Document01.raise(lent, &arm[..fresh], w);
+    }
+}
