@@ -10,6 +10,7 @@ use lib.Dec.{eqb}
 use mir.Syntax.{w8, w16}
 use mir.Val.{Fits}
 use Rattle.plain.specs.Table.{at}
+use Rattle.tables.specs.Tree.{mostMachines}
 use Rattle.text.specs.Text.{decimal, line, lineFor, lines, machineLine, machineLines, uplinkLine, uplinkLines}
 use Rattle.text.proofs.Digits.{length-places, length-below}
 
@@ -38,7 +39,7 @@ lines-length f w n h (suc m) k b =
     omega (arith, mul-suc w m, length-append (f k) (lines f (suc k) m), h k (omega arith), lines-length f w n h m (suc k) (omega arith))
 
 -- the number of a machine has at most 4 digits, a byte 3 and an uplink 5
-module _ (n : ℕ) (few : n ≤ 4096) where
+module _ (n : ℕ) (few : n ≤ mostMachines) where
   pub machine-lines : (bytes : List ℕ) → ((i : ℕ) → Fits w8 (at bytes i)) → length (machineLines bytes 0 n) ≤ 11 * n
   machine-lines bytes small =
       lines-length (machineLine bytes) 11 n (λ i h. line-width (at bytes i) 77 i (at bytes i) 3 2 (omega arith) (omega (arith, small i))) n 0 (omega arith)
