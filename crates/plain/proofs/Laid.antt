@@ -1,25 +1,18 @@
--- A list laid over the front of a slice: it stands there whole, and a list that is no longer leaves the slice its length. The front part laid back as it
--- was changes nothing, and with a few entries more behind it, it is what stores one by one leave.
+-- A list laid over the front of a slice stands there whole. The front part laid back as it was changes nothing, and with a few entries more behind it, it
+-- is what stores one by one leave.
 use mathlib.Core.Path.{_≡_, refl, ap, _∙_}
 use mathlib.Core.List.{List, [], _∷_, _++_}
 use Prim.Native.Nat.{ℕ, zero, suc, _+_, _≤_}
 use native.Mathlib.Omega.{arith}
-use lib.ListN.{length, take, drop, length-append, length-drop}
+use lib.ListN.{length, take, drop, length-append}
 use lib.Seq.{length-take-le, take-append-seam, sets, sets-eq}
 use Rattle.plain.specs.Laid.{laid}
 
 pub take-laid : (l slice : List ℕ) → take (length l) (laid l slice) ≡ l
 take-laid l slice = take-append-seam l (drop (length l) slice)
 
-pub length-laid : (l slice : List ℕ) {n : ℕ} → length slice ≡ n → length l ≤ n → length (laid l slice) ≡ n
-length-laid l slice e h = omega (arith, length-append l (drop (length l) slice), length-drop (length l) slice)
-
--- whatever its length, both fit
 pub laid-whole : (l slice : List ℕ) → length l ≤ length (laid l slice)
 laid-whole l slice = omega (arith, length-append l (drop (length l) slice))
-
-pub laid-longer : (l slice : List ℕ) → length slice ≤ length (laid l slice)
-laid-longer l slice = omega (arith, length-append l (drop (length l) slice), length-drop (length l) slice)
 
 pub laid-front : (n : ℕ) (l : List ℕ) → laid (take n l) l ≡ l
 laid-front zero l = refl

@@ -1,5 +1,5 @@
 // What is printed for a site file, written to standard output: after each turn the first bytes of the text, as many as the turn told. The law `Printing`
-// of the turns says of just this loop that it writes what is printed for the file.
+// of the turns says of such a loop that it writes what is printed for the file.
 ghost use Prim.Native.Nat.{_≤_};
 ghost use lib.ListN.{length};
 use libc::STDOUT_FILENO;
@@ -13,7 +13,7 @@ fn write_front(text: &[u8], k: usize)
     io::write_all(STDOUT_FILENO, &text[..k]);
 }
 
-// One site file over lent room, whose lengths are those that the law asks for.
+// One site file over lent room. What it holds does not matter.
 pub fn print_file(
     file: &[u8],
     up: &mut [u16; Site::MACHINES],

@@ -8,7 +8,7 @@ use native.Mathlib.Omega.{arith}
 use lib.ListN.{length, length-append}
 use lib.Dec.{eqb, ltb}
 use borrow.Author.Tests.{eq-eqb, ne-eqb, ltb-true, ltb-false}
-use Rattle.plain.proofs.Says.{says-and, says-lt, says-le, says-eq}
+use Rattle.plain.proofs.Says.{says-and, says-le, says-eq}
 use Rattle.plain.proofs.Tabulate.{length-tabulate}
 use Rattle.tables.specs.declared.Answer.{Answer}
 use Rattle.tables.specs.declared.Verdict.the-variants.{the-data as Verdict, Sound, Refused}
@@ -161,9 +161,9 @@ module _ (bytes : List ℕ) (r : Read) where
   done-leads due.Close t = close-leads (t .0) (t .1)
   done-leads due.Report t = report-leads (t .0) (t .1)
 
-  pub leads : Leads bytes r (step bytes r)
+  pub step-leads : Leads bytes r (step bytes r)
   unfolding step
-  leads = done-leads (dueOf bytes (readerOf r)) (told bytes (readerOf r) refl)
+  step-leads = done-leads (dueOf bytes (readerOf r)) (told bytes (readerOf r) refl)
 
 -- the start
 pub led-begin : Led begin

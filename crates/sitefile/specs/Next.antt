@@ -1,9 +1,8 @@
 -- The next record of a file over lent slices: what it comes to, and every slice as it leaves it.
-use mathlib.Core.Path.{_≡_}
 use mathlib.Core.Bool.{Bool, cond, _&&_}
 use mathlib.Core.List.{List}
 use Prim.Native.Nat.{ℕ, _*_, _%_}
-use lib.ListN.{length, take}
+use lib.ListN.{take}
 use lib.Dec.{leb, eqb}
 use Rattle.plain.specs.Laid.{laid}
 use Rattle.tables.specs.Tree.{mostMachines}
@@ -26,16 +25,6 @@ pub record Room : Type 0 where
 -- the seven slices as one
 abbrev pub roomOf : List ℕ → List ℕ → List ℕ → List ℕ → List ℕ → List ℕ → List ℕ → Room
 roomOf up depth group mark batch machines links = record { up = up; tables = tablesOf depth group mark; batch = batch; outputs = bytesOf machines links }
-
--- as the types of the arrays have it
-pub record Lengths (room : Room) : Type 0 where
-  pub up : length (room .up) ≡ mostMachines
-  pub depth : length (room .tables .depth) ≡ mostMachines
-  pub group : length (room .tables .group) ≡ mostMachines
-  pub mark : length (room .tables .mark) ≡ mostMachines
-  pub batch : length (room .batch) ≡ 2 * mostLinks
-  pub machines : length (room .outputs .machines) ≡ mostMachines
-  pub links : length (room .outputs .links) ≡ mostMachines
 
 -- a reader that a file leads to counts no more than the slices hold, and whole links
 abbrev pub countsFit : Reader → Bool

@@ -6,7 +6,7 @@ use native.Mathlib.Omega.{arith}
 use lib.ListN.{length}
 use Rattle.text.specs.Text.{reportText}
 use Rattle.sitefile.specs.File.{Read, FileStep, step}
-use Rattle.sitefile.proofs.Stepping.{Leads, onward, reporting, ending, refusing, leads}
+use Rattle.sitefile.proofs.Stepping.{Leads, onward, reporting, ending, refusing, step-leads}
 use Rattle.turns.specs.Printed.{prints}
 
 abbrev Same : List ℕ → ℕ → ℕ → Read → Type 0
@@ -24,4 +24,4 @@ once file j k r refusing e rest a b = rw (e, prints)
 pub fuel : (file : List ℕ) (j k : ℕ) (r : Read) → Same file j k r
 fuel file zero k r a b = absurd (omega arith)
 fuel file (suc j) zero r a b = absurd (omega arith)
-fuel file (suc j) (suc k) r a b = once file j k r (leads file r) refl (λ r′. fuel file j k r′) a b
+fuel file (suc j) (suc k) r a b = once file j k r (step-leads file r) refl (λ r′. fuel file j k r′) a b

@@ -11,38 +11,36 @@ use lib.Dec.{ltb}
 use borrow.Author.Tests.{le-ltb, ltb-false}
 use Rattle.plain.specs.Laid.{laid}
 use Rattle.plain.proofs.Says.{by-cases}
-use Rattle.plain.proofs.Laid.{take-laid, laid-longer}
+use Rattle.plain.proofs.Laid.{take-laid}
 use Rattle.tables.specs.declared.Fault.{Fault}
 use Rattle.tables.specs.Answer.{refusal}
 use Rattle.tables.specs.Report.{Bytes, bytesOf}
 use Rattle.text.specs.Text.{reportText, refusalText}
-use Rattle.text.specs.Written.{mostText}
 use Rattle.sitefile.specs.declared.Reader.{Reader}
 use Rattle.sitefile.specs.File.{Read, FileStep, begin, readerOf, step}
 use Rattle.sitefile.specs.Next.{Room, holding, stepOver}
-use Rattle.sitefile.proofs.Stepping.{Led, led-begin, Whole, Leads, onward, reporting, ending, refusing, leads}
-use Rattle.sitefile.proofs.Holding.{Holds, holds-begin, holds, holds-report, next-is}
+use Rattle.sitefile.proofs.Stepping.{Led, led-begin, Whole, Leads, onward, reporting, ending, refusing, step-leads}
+use Rattle.sitefile.proofs.Holding.{Holds, holds-begin, holds, next-is}
 use Rattle.turns.specs.Printed.{mostBytes, prints, printed}
-use Rattle.turns.specs.Turn.{Desk, desk, last, shown, toldBy, turnOf, ofTurn, writes, Printing}
+use Rattle.turns.specs.Turn.{Desk, last, shown, toldBy, turnOf, ofTurn, writes, Printing}
 use Rattle.turns.proofs.Fuel.{fuel}
 
 -- the bytes of a report stand in the outputs, so its text is what a turn shows
-shows : {r₀ r : Read} {o : Bytes} (room : Room) → Whole r₀ r o
+shown-is : {r₀ r : Read} {o : Bytes} (room : Room) → Whole r₀ r o
     → shown (readerOf r) (holding r room (bytesOf (laid (o .machines) (room .outputs .machines)) (laid (o .links) (room .outputs .links)))) ≡ reportText (r .up) o
 unfolding holding
-shows {r = r} {o} room w = rw (take-at (r .up) (drop (length (r .up)) (room .up)) (r .n) (w .tree), take-at (o .machines) (drop (length (o .machines)) (room .outputs .machines)) (r .n) (w .machines), take-at (o .links) (drop (length (o .links)) (room .outputs .links)) (r .n) (w .links))
+shown-is {r = r} {o} room w = rw (take-at (r .up) (drop (length (r .up)) (room .up)) (r .n) (w .tree), take-at (o .machines) (drop (length (o .machines)) (room .outputs .machines)) (r .n) (w .machines), take-at (o .links) (drop (length (o .links)) (room .outputs .links)) (r .n) (w .links))
 
--- what a turn is given: slices that hold what was read, and a buffer with room
+-- what a turn is given: sizes that a file leads to, and slices that hold what was read
 record Ready (r : Read) (d : Desk) : Type 0 where
   led : Led r
   held : Holds r (d .room)
-  space : mostText ≤ length (d .text)
 
 module _ (file : List ℕ) (short : length file ≤ mostBytes) where
   turn-is : {r : Read} {d : Desk} → Ready r d
       → turnOf file (readerOf r) d ≡ toldBy (stepOver (step file r) (d .room) .answer) (stepOver (step file r) (d .room) .lent) (d .text)
   unfolding turnOf
-  turn-is {r} {d} q = rw (le-ltb mostBytes (length file) short, next-is file (q .led) (q .held))
+  turn-is {r} {d} q = rw (le-ltb mostBytes (length file) short, next-is file (d .room) (q .led) (q .held))
 
   abbrev Follows : ℕ → Type 0
   Follows k = (r : Read) (d : Desk) → Ready r d → writes k file (readerOf r) d ≡ prints k file r
@@ -52,36 +50,34 @@ module _ (file : List ℕ) (short : length file ≤ mostBytes) where
   unfolding writes ofTurn prints
   once k r d (onward {r′} l) e rest q =
       let m = l .keeps (q .led) in
-      let s = q .held .lengths in
       rw (turn-is q, e, prints)
-      (rest r′ _ (record { led = m; held = holds m s (d .room .outputs) (s .machines) (s .links); space = q .space }))
+      (rest r′ _ (record { led = m; held = holds (d .room) m (d .room .outputs) }))
   once k r d (reporting {r′} {o} l w) e rest q =
       let m = l .keeps (q .led) in
-      let s = q .held .lengths in
-      rw (turn-is q, e, prints, shows (d .room) w, take-laid (reportText (r′ .up) o) (d .text))
-      (ap (λ x. reportText (r′ .up) o ++ x) (rest r′ _ (record { led = m; held = holds-report m s w; space = omega (arith, q .space, laid-longer (reportText (r′ .up) o) (d .text)) })))
+      rw (turn-is q, e, prints, shown-is (d .room) w, take-laid (reportText (r′ .up) o) (d .text))
+      (ap (λ x. reportText (r′ .up) o ++ x) (rest r′ _ (record { led = m; held = holds (d .room) m _ })))
   once k r d ending e rest q = rw (turn-is q, e, prints)
   once k r d (refusing {a}) e rest q = rw (turn-is q, e, prints) (take-laid (refusalText a) (d .text))
 
   follows : (k : ℕ) → Follows k
   unfolding writes prints
   follows zero r d q = refl
-  follows (suc k) r d q = once k r d (leads file r) refl (follows k) q
+  follows (suc k) r d q = once k r d (step-leads file r) refl (follows k) q
 
 -- a file that is too long is refused in the first turn
 module _ (file : List ℕ) (d : Desk) (long : ltb mostBytes (length file) ≡ true) where
-  turn-long : (r : Reader) → turnOf file r d ≡ last (refusalText (refusal Fault.Long mostBytes)) (d .room) (d .text)
+  long-turn : (r : Reader) → turnOf file r d ≡ last (refusalText (refusal Fault.Long mostBytes)) (d .room) (d .text)
   unfolding turnOf
-  turn-long r = rw long
+  long-turn r = rw long
 
   too-long : (k : ℕ) (r : Reader) → writes (suc k) file r d ≡ refusalText (refusal Fault.Long mostBytes)
   unfolding writes ofTurn
-  too-long k r = rw (turn-long r) (take-laid (refusalText (refusal Fault.Long mostBytes)) (d .text))
+  too-long k r = rw (long-turn r) (take-laid (refusalText (refusal Fault.Long mostBytes)) (d .text))
 
 pub printing : Printing
 unfolding printed
-printing file d zero s h m = absurd (omega arith)
-printing file d (suc k) s h m = by-cases (ltb mostBytes (length file))
+printing file d zero m = absurd (omega arith)
+printing file d (suc k) m = by-cases (ltb mostBytes (length file))
     (λ e. rw e (too-long file d e k (readerOf begin)))
     (λ e. rw e
-    (follows file (ltb-false _ _ e) (suc k) begin d (record { led = led-begin; held = holds-begin (d .room) s; space = h }) ∙ fuel file (suc k) (suc (length file)) begin (omega arith) (omega arith)))
+    (follows file (ltb-false _ _ e) (suc k) begin d (record { led = led-begin; held = holds-begin (d .room) }) ∙ fuel file (suc k) (suc (length file)) begin (omega arith) (omega arith)))

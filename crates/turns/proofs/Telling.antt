@@ -20,11 +20,11 @@ use Rattle.sitefile.specs.declared.Step.the-variants as steps
 use Rattle.sitefile.specs.File.{FileStep}
 use Rattle.sitefile.specs.Next.{Room, countsFit, readOf, stepOver, nextOf}
 use Rattle.sitefile.proofs.ReadNext.{Fit, says-fit}
-use Rattle.sitefile.proofs.Stepping.{Leads, onward, reporting, ending, refusing, leads}
+use Rattle.sitefile.proofs.Stepping.{Leads, onward, reporting, ending, refusing, step-leads}
 use Rattle.turns.specs.declared.Turn.{Turn}
 use Rattle.turns.specs.declared.Turn.the-variants as turns
 use Rattle.turns.specs.Printed.{mostBytes}
-use Rattle.turns.specs.Turn.{Desk, desk, toldBy, turnOf, shown}
+use Rattle.turns.specs.Turn.{desk, toldBy, turnOf, shown}
 use Rattle.turns.specs.Telling.{ShowDue, TellDue}
 
 pub record Further (file : List ℕ) (r r′ : Reader) : Type 0 where
@@ -49,7 +49,7 @@ module _ (file : List ℕ) (r : Reader) (room : Room) where
   next-tells : StepTells file r (nextOf file r room .answer)
   unfolding nextOf StepTells
   next-tells = by-cases (countsFit r)
-      (λ e. rw e (over-tells (says-fit r .gives e) (leads file (readOf r room))))
+      (λ e. rw e (over-tells (says-fit r .gives e) (step-leads file (readOf r room))))
       (λ e. rw e tt)
 
   -- a report is on machines that the slices have

@@ -3,7 +3,7 @@
 use mathlib.Core.Path.{_≡_}
 use mathlib.Core.Bool.{cond}
 use mathlib.Core.List.{List, [], _++_}
-use Prim.Native.Nat.{ℕ, zero, suc, _≤_, _<_}
+use Prim.Native.Nat.{ℕ, zero, suc, _<_}
 use lib.ListN.{length, take}
 use lib.Dec.{ltb}
 use Rattle.plain.specs.Laid.{laid}
@@ -12,12 +12,11 @@ use Rattle.tables.specs.Answer.{refusal}
 use Rattle.tables.specs.Report.{bytesOf}
 use Rattle.tables.specs.Outcome.{Outcome, outcome}
 use Rattle.text.specs.Text.{reportText, refusalText}
-use Rattle.text.specs.Written.{mostText}
 use Rattle.sitefile.specs.declared.Reader.{Reader}
 use Rattle.sitefile.specs.declared.Step.{Step}
 use Rattle.sitefile.specs.declared.Step.the-variants as steps
 use Rattle.sitefile.specs.File.{begin, readerOf}
-use Rattle.sitefile.specs.Next.{Room, Lengths, nextOf}
+use Rattle.sitefile.specs.Next.{Room, nextOf}
 use Rattle.turns.specs.declared.Turn.{Turn}
 use Rattle.turns.specs.declared.Turn.the-variants as turns
 use Rattle.turns.specs.Printed.{mostBytes, printed}
@@ -68,9 +67,7 @@ unfoldable pub writes : ℕ → List ℕ → Reader → Desk → List ℕ
 writes zero file r d = []
 writes (suc k) file r d = ofTurn (turnOf file r d) (writes k file)
 
--- THE PRINTING: from the start, over any slices of the right lengths and any buffer with room, whatever they hold, a loop of more turns than the file
--- has bytes writes what is printed for the file
+-- THE PRINTING: from the start, over any lent slices and any buffer, whatever they hold, a loop of more turns than the file has bytes writes what is
+-- printed for the file
 abbrev pub Printing : Type 0
-Printing =
-    (file : List ℕ) (d : Desk) (k : ℕ) → Lengths (d .room) → mostText ≤ length (d .text) → length file < k
-    → writes k file (readerOf begin) d ≡ printed file
+Printing = (file : List ℕ) (d : Desk) (k : ℕ) → length file < k → writes k file (readerOf begin) d ≡ printed file
