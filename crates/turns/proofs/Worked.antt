@@ -14,8 +14,8 @@ use Rattle.sitefile.specs.Record.{bodyLength, whole, bodyOf}
 use Rattle.text.specs.Text.{ascii, digits, line, lines, reportText}
 use Rattle.sitefile.specs.File.{dueOf, size, uplink, link, close, report, done, step}
 use Rattle.turns.specs.Printed.{prints, printed}
-use Rattle.turns.specs.Worked.{files, Worked}
+use Rattle.turns.specs.Worked.{files, FilesWorked}
 
-pub worked : Worked
+pub files-worked : FilesWorked
 unfolding least some count tabulate total checks refuseLeast climb hub depthOf sizeVerdict treeVerdict fresh sizesVerdict over first meet ring due below joined grouped raised linked pairs numbersVerdict endsVerdict batchVerdict after rise depthRule groupRule carriedRule keeps breaks rulesVerdict tablesVerdict child stuck split ends lone machineByte machineBytes linkBytes named judged addVerdict addOf outputsVerdict reportVerdict bodyLength whole bodyOf ascii digits line lines reportText dueOf size uplink link close report done step prints printed files
-worked = refl
+files-worked = refl

@@ -38,5 +38,5 @@ files =
     ∷ []
 
 -- every file prints what was worked out by hand
-abbrev pub Worked : Type 0
-Worked = map (λ r. printed (r .file)) files ≡ map (λ r. ascii (r .prints)) files
+abbrev pub FilesWorked : Type 0
+FilesWorked = map (λ r. printed (r .file)) files ≡ map (λ r. ascii (r .prints)) files

@@ -34,7 +34,7 @@ pub const ALL: [Class<Files>; 4] = [
     },
 ];
 
-/// Damaged files of every kind that codes 1 to 13 name. What each has to be answered is the reader's to say: some come out
+/// Damaged files of every kind that the codes of a file name (no file gives 2 or 6). What each has to be answered is the reader's to say: some come out
 /// sound by chance, and they are as good a test.
 fn damaged(visit: Visit) {
     damaged_records::all(visit);

@@ -141,12 +141,17 @@ pub fn check_tree(up: &[usize]) -> Result<(), Refusal> {
 /// Codes 8 and 9, link by link, 8 first within a link.
 fn check_batch(batch: &[Link], n: usize) -> Result<(), Refusal> {
     for (index, &(a, b)) in batch.iter().enumerate() {
-        if a >= n || b >= n {
-            return refuse(8, index);
-        }
-        if a == b {
-            return refuse(9, index);
-        }
+        check_link(n, index, a, b)?;
+    }
+    Ok(())
+}
+
+pub fn check_link(n: usize, index: usize, a: usize, b: usize) -> Result<(), Refusal> {
+    if a >= n || b >= n {
+        return refuse(8, index);
+    }
+    if a == b {
+        return refuse(9, index);
     }
     Ok(())
 }

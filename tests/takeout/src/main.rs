@@ -1,8 +1,9 @@
 //! takeout: an independent test program for `labels`, `chokes` and `trial`.
 //!
-//! It is written from document 01 alone. It reads a site file by its own reader and finds the chokes by taking out each
-//! machine and each cable and searching what is left, and it has the three calls by a plain reading of its own. So it shares
-//! neither code nor method with what it tests.
+//! It shares no code with what it tests. It reads a site file by its own reader and finds the chokes by taking out each
+//! machine and each cable and searching what is left: another method, too. The three calls it has by a plain reading of
+//! document 01's marks, groups and rules, and it holds that reading to what taking out finds, and to the tables that it
+//! reaches by adding every link in turn.
 
 mod answer;
 mod call_histories;

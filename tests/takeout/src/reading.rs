@@ -1,7 +1,7 @@
 //! Document 01's three calls, by the plainest code that its words allow. Nothing is clever and nothing is quick: lines are
 //! climbed to the hub, groups are looked through whole.
 
-use crate::file::{check_tree, refuse, Refusal, BATCH_LIMIT, MACHINE_LIMIT};
+use crate::file::{check_link, check_tree, refuse, Refusal, BATCH_LIMIT, MACHINE_LIMIT};
 use crate::lent::{line, Answer, Lent};
 use crate::rules::{least_breaking, Rule, RULES};
 
@@ -85,13 +85,7 @@ pub trait Reading {
     }
 
     fn check_link(&self, n: usize, index: usize, a: usize, b: usize) -> Result<(), Refusal> {
-        if a >= n || b >= n {
-            return refuse(8, index);
-        }
-        if a == b {
-            return refuse(9, index);
-        }
-        Ok(())
+        check_link(n, index, a, b)
     }
 
     /// The steps from v to the hub.
