@@ -12,13 +12,13 @@ use Rattle.tables.specs.Verdict.{Sound, checks}
 use Rattle.tables.specs.Tree.{depthOf, sizeVerdict}
 use Rattle.tables.specs.Tables.{fresh, lengthsVerdict}
 use Rattle.tables.specs.Batch.{pairs, numbersVerdict, batchVerdict, after, rise}
-use Rattle.tables.specs.Links.{Stands, tablesWith}
+use Rattle.tables.specs.Links.{AllGood, Stands, tablesWith}
 use Rattle.tables.specs.History.{History, links, leaves}
 use Rattle.tables.specs.Rules.{rulesVerdict, tablesVerdict}
 use Rattle.tables.specs.Outcome.{judged, startVerdict, startOf, addVerdict, addOf}
 use Rattle.tables.specs.Demand1.{SoundTree}
 use Rattle.tables.specs.Calls.{Adds, CallsLive, Limits}
-use Rattle.tables.proofs.Standing.{AllGood, alone-passed, standing}
+use Rattle.tables.proofs.Standing.{alone-passed, standing}
 use Rattle.tables.proofs.Verdicts.{checks-one, unless-sound}
 use Rattle.tables.proofs.Lengths.{size-exact, sizes-exact}
 use Rattle.tables.proofs.Sound.{sound-tree}
@@ -44,16 +44,17 @@ module _ {up : List ℕ} {l : Cables} (s : SoundTree up) (g : AllGood (length up
       })
 
 adds : (up : List ℕ) (l : Cables) → Stands up l → (batch : List ℕ) → Adds up batch (tablesWith up l) (tablesWith up (l ++ pairs batch))
-unfolding judged addVerdict addOf tablesVerdict checks
+unfolding addVerdict addOf tablesVerdict checks
 adds up l st batch =
     let t = tablesWith up l in
     let t′ = after up (pairs batch) t in
     let s = sound-tree up (standing st .tree) in
     let rose : rise t t′ + total (t .mark) ≡ total (t′ .mark) = rise-is up (pairs batch) t (told s (standing st .good) .marked .size) in
+    let came : addVerdict up batch t ≡ batchVerdict (length up) batch =
+    rw (lengths-met s (standing st .good) (standing st .size), standing st .tree, rules-met s (standing st .good)) (checks-one (batchVerdict (length up) batch)) in
     let e : rise t t′ ≡ total (t′ .mark) - total (t .mark) = omega arith in
     rw (after-append up l (pairs batch) (fresh up)) (record {
-      add = rw (lengths-met s (standing st .good) (standing st .size), standing st .tree, rules-met s (standing st .good), e)
-          (ap (λ v. judged v t (total (t′ .mark) - total (t .mark)) t′) (checks-one (batchVerdict (length up) batch)));
+      add = ap (λ v. judged v t (rise t t′) t′) came ∙ ap (λ r. judged (batchVerdict (length up) batch) t r t′) e;
       rises = omega arith;
     })
 

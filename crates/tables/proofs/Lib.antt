@@ -23,4 +23,5 @@ pub mod Demand1
 pub mod Demand2
 pub mod Demand3
 pub mod Codes
+pub mod Order
 pub mod Worked
