@@ -3,7 +3,7 @@
 use mathlib.Core.Path.{_≡_}
 use mathlib.Core.Bool.{true, false}
 use mathlib.Core.List.{List, [], _∷_, _++_}
-use mathlib.Core.Logic.{_≢_, _↔_}
+use mathlib.Core.Logic.{_≢_, _⊎_, _↔_}
 use Prim.Native.Nat.{ℕ, _<_, _≤_}
 use lib.ListN.{length}
 use Rattle.plain.specs.Member.{_∈_}
@@ -27,9 +27,20 @@ pub record SoundTree (up : List ℕ) : Type 0 where
   pub only : (v : ℕ) → v < length up → at up v ≡ v → v ≡ hub up
   pub reaches : (v : ℕ) → v < length up → Reaches up v
 
--- a tree is accepted exactly where it is sound, and code 5 names the least machine that no number of steps leads to the hub
+-- no machine names itself, and v is n
+abbrev pub NoHub : List ℕ → ℕ → Type 0
+NoHub up v = (v ≡ length up) × ((u : ℕ) → u < length up → at up u ≢ u)
+
+-- v names itself, and so does one machine below it
+abbrev pub SecondHub : List ℕ → ℕ → Type 0
+SecondHub up v = (v < length up) × (at up v ≡ v) × ((h : ℕ) × (h < v) × (at up h ≡ h) × ((u : ℕ) → u < v → at up u ≡ u → u ≡ h))
+
+-- a tree is accepted exactly where it is sound; code 3 names the least machine whose up is none, code 4 n or the second least hub, and code 5 the
+-- least machine that no number of steps leads to the hub
 pub record TreesExact : Type 0 where
   pub sound : (up : List ℕ) → (treeVerdict up ≡ Sound) ↔ SoundTree up
+  pub entry : (up : List ℕ) (v : ℕ) → treeVerdict up ≡ Refused Fault.Entry v → (v < length up) × (length up ≤ at up v) × ((u : ℕ) → u < v → at up u < length up)
+  pub hubs : (up : List ℕ) (v : ℕ) → treeVerdict up ≡ Refused Fault.Hubs v → NoHub up v ⊎ SecondHub up v
   pub never : (up : List ℕ) (v : ℕ) → treeVerdict up ≡ Refused Fault.Stray v → (v < length up) × (¬ Reaches up v) × ((u : ℕ) → u < v → Reaches up u)
 
 -- over a sound tree, tables of the right lengths are refused with 6 exactly where no history leaves them, with the least machine breaking a rule
