@@ -27,8 +27,9 @@ use Rattle.tables.proofs.Lengths.{sized-is}
 use Rattle.tables.proofs.Sound.{sound-tree, rooted}
 use Rattle.tables.proofs.Links.{network, told}
 use Rattle.tables.proofs.Histories.{only-links}
-use Rattle.tables.proofs.Reports.{machine-bytes, hub-byte, link-bytes, never-three}
+use Rattle.tables.proofs.Reports.{machine-bytes, hub-byte, link-bytes, link-small, never-three}
 use Rattle.tables.proofs.Cabling.{linked-cabled, machine-cabled, uplink-cabled}
+use Rattle.tables.proofs.Counting.{named-list}
 use Rattle.tables.proofs.Calls.{rules-met, lengths-met}
 use Rattle.tables.proofs.Demand1.{rules-links, site-of, report-came}
 
@@ -45,7 +46,7 @@ module _ {up : List ℕ} {l : Cables} (st : Stands up l) where
 
     counted : Counted (reportOf up t o)
     unfolding judged reportOf
-    counted = rw report-passes refl
+    counted = let k = named-list (machineBytes up t) in rw report-passes (record { list = k .list; once = k .once; those = k .those; value = k .size })
 
     reports : Reported up l (reportOf up t o)
     unfolding judged reportOf machineBytes linkBytes
@@ -58,6 +59,7 @@ module _ {up : List ℕ} {l : Cables} (st : Stands up l) where
           machines = λ w i. rw (at-tabulate (length up) (machineByte (hub up) up (t .group) (t .mark)) w i) (Iff·trans (machine-bytes N d k w i) (Iff·symm (machine-cabled up l w)));
           hub-byte = λ w i. rw (at-tabulate (length up) (machineByte (hub up) up (t .group) (t .mark)) w i) (Iff·trans (hub-byte N d k w i) (Iff·and Iff·rfl (Iff·symm (machine-cabled up l w))));
           uplinks = λ v i. rw (at-tabulate (length up) (linkByte (hub up) (t .mark)) v i) (Iff·trans (link-bytes N d k v i) (Iff·symm (uplink-cabled s l v i)));
+          link-byte = λ v i. rw (at-tabulate (length up) (linkByte (hub up) (t .mark)) v i) (link-small (hub up) (t .mark) v);
         })
 
   cross-links : CrossSpare up l

@@ -17,6 +17,7 @@ pub mod Complete
 pub mod Reports
 pub mod Cabling
 pub mod Rise
+pub mod Counting
 pub mod Laws
 pub mod Calls
 pub mod Demand1
