@@ -9,13 +9,14 @@ use Rattle.graph.specs.Cable.{Cables}
 use Rattle.plain.proofs.Says.{says-le, says-eq, says-and}
 use Rattle.plain.proofs.Tabulate.{length-tabulate}
 use Rattle.tables.specs.Verdict.{Sound, checks}
+use Rattle.tables.specs.Answer.{done}
 use Rattle.tables.specs.Tree.{depthOf, sizeVerdict}
 use Rattle.tables.specs.Tables.{fresh, lengthsVerdict}
 use Rattle.tables.specs.Batch.{pairs, numbersVerdict, batchVerdict, after, rise}
 use Rattle.tables.specs.Links.{AllGood, Stands, tablesWith}
 use Rattle.tables.specs.History.{History, links, leaves}
 use Rattle.tables.specs.Rules.{rulesVerdict, tablesVerdict}
-use Rattle.tables.specs.Outcome.{judged, startVerdict, startOf, addVerdict, addOf}
+use Rattle.tables.specs.Outcome.{outcome, judged, startVerdict, startOf, addVerdict, addOf}
 use Rattle.tables.specs.Demand1.{SoundTree}
 use Rattle.tables.specs.Calls.{Adds, CallsLive, Limits}
 use Rattle.tables.proofs.Standing.{alone-passed, standing}
@@ -44,7 +45,7 @@ module _ {up : List ℕ} {l : Cables} (s : SoundTree up) (g : AllGood (length up
       })
 
 adds : (up : List ℕ) (l : Cables) → Stands up l → (batch : List ℕ) → Adds up batch (tablesWith up l) (tablesWith up (l ++ pairs batch))
-unfolding addVerdict addOf tablesVerdict checks
+unfolding judged addVerdict addOf tablesVerdict checks
 adds up l st batch =
     let t = tablesWith up l in
     let t′ = after up (pairs batch) t in
@@ -54,7 +55,8 @@ adds up l st batch =
     rw (lengths-met s (standing st .good) (standing st .size), standing st .tree, rules-met s (standing st .good)) (checks-one (batchVerdict (length up) batch)) in
     let e : rise t t′ ≡ total (t′ .mark) - total (t .mark) = omega arith in
     rw (after-append up l (pairs batch) (fresh up)) (record {
-      add = ap (λ v. judged v t (rise t t′) t′) came ∙ ap (λ r. judged (batchVerdict (length up) batch) t r t′) e;
+      accepted = λ v. ap (λ c. judged c t (rise t t′) t′) (came ∙ v) ∙ ap (λ r. outcome (done r) t′) e;
+      refused = λ why place v. ap (λ c. judged c t (rise t t′) t′) (came ∙ v);
       rises = omega arith;
     })
 

@@ -6,18 +6,19 @@ use Prim.Native.Nat.{ℕ, _*_, _-_, _%_, _≤_}
 use lib.ListN.{length}
 use Rattle.plain.specs.Table.{total}
 use Rattle.graph.specs.Cable.{Cables}
-use Rattle.tables.specs.Verdict.{Fault, numberOf, faults, Sound}
-use Rattle.tables.specs.Answer.{done}
+use Rattle.tables.specs.Verdict.{Fault, numberOf, faults, Sound, Refused}
+use Rattle.tables.specs.Answer.{done, refusal}
 use Rattle.tables.specs.Tree.{sizeVerdict}
 use Rattle.tables.specs.Tables.{Tables, lengthsVerdict}
 use Rattle.tables.specs.Batch.{pairs, numbersVerdict, batchVerdict}
 use Rattle.tables.specs.Links.{Stands, tablesWith}
 use Rattle.tables.specs.History.{History, Lived, tables}
-use Rattle.tables.specs.Outcome.{outcome, judged, startOf, addOf}
+use Rattle.tables.specs.Outcome.{outcome, startOf, addOf}
 
--- over t Add is refused only where the batch is, leaves t′, and its value is what the marks, added up, rose by
+-- over t Add is refused only where the batch is, and leaves t; else it is done, leaves t′, and its value is what the marks, added up, rose by
 pub record Adds (up batch : List ℕ) (t t′ : Tables) : Type 0 where
-  pub add : addOf up batch t ≡ judged (batchVerdict (length up) batch) t (total (t′ .mark) - total (t .mark)) t′
+  pub accepted : batchVerdict (length up) batch ≡ Sound → addOf up batch t ≡ outcome (done (total (t′ .mark) - total (t .mark))) t′
+  pub refused : (why : Fault) (place : ℕ) → batchVerdict (length up) batch ≡ Refused why place → addOf up batch t ≡ outcome (refusal why place) t
   pub rises : total (t .mark) ≤ total (t′ .mark)
 
 -- from nothing to the empty history, from a history to the longer one, and from links to these with those of the batch
