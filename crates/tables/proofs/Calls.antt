@@ -1,24 +1,26 @@
 -- The calls over the tables of links that stand: no rule is broken and every length is right, so only the batch can be refused.
-use mathlib.Core.Path.{_≡_, sym, ap, _∙_}
+use mathlib.Core.Path.{_≡_, refl, sym, ap, _∙_}
 use mathlib.Core.List.{List, [], _∷_, _++_, append-nil, append-assoc}
+use mathlib.Core.Logic.{⊎-elim}
 use Prim.Native.Nat.{ℕ, _+_, _-_, _*_, _%_}
 use native.Mathlib.Omega.{arith}
 use lib.ListN.{length}
 use Rattle.plain.specs.Table.{total}
 use Rattle.graph.specs.Cable.{Cables}
+use Rattle.graph.proofs.Members.{here, there, empty, single, parts}
 use Rattle.plain.proofs.Says.{says-le, says-eq, says-and}
 use Rattle.plain.proofs.Tabulate.{length-tabulate}
 use Rattle.tables.specs.Verdict.{Sound, checks}
 use Rattle.tables.specs.Answer.{done}
 use Rattle.tables.specs.Tree.{depthOf, sizeVerdict}
-use Rattle.tables.specs.Tables.{fresh, lengthsVerdict}
+use Rattle.tables.specs.Tables.{Tables, fresh, lengthsVerdict}
 use Rattle.tables.specs.Batch.{pairs, numbersVerdict, batchVerdict, after, rise}
 use Rattle.tables.specs.Links.{AllGood, Stands, tablesWith}
-use Rattle.tables.specs.History.{History, links, leaves}
+use Rattle.tables.specs.History.{History, Accepted, Lived, links, leaves, tables}
 use Rattle.tables.specs.Rules.{rulesVerdict, tablesVerdict}
 use Rattle.tables.specs.Outcome.{outcome, judged, startVerdict, startOf, addVerdict, addOf}
 use Rattle.tables.specs.Demand1.{SoundTree}
-use Rattle.tables.specs.Calls.{Adds, CallsLive, Limits}
+use Rattle.tables.specs.Calls.{Adds, added, CallsLive, Limits}
 use Rattle.tables.proofs.Standing.{alone-passed, standing}
 use Rattle.tables.proofs.Verdicts.{checks-one, unless-sound}
 use Rattle.tables.proofs.Lengths.{size-exact, sizes-exact}
@@ -65,12 +67,31 @@ unfolding links
 links-append [] batch = append-nil (pairs batch)
 links-append (b ∷ h) batch = ap (λ l. pairs b ++ l) (links-append h batch) ∙ sym (append-assoc (pairs b) (links h) (pairs batch))
 
-pub calls-live : CallsLive
+started : (up : List ℕ) (t : Tables) → Lived up [] → lengthsVerdict up t ≡ Sound → startOf up t ≡ outcome (done (length up)) (tables up [])
 unfolding startVerdict startOf checks judged leaves
+started up t l e = rw (e, alone-passed up (l .tree) .1)
+
+adds-more : (up : List ℕ) (h : History) → Lived up h → (batch : List ℕ) → Adds up batch (tables up h) (tables up (h ++ (batch ∷ [])))
+adds-more up h l batch =
+    rw (only-links .leave up h, only-links .leave up (h ++ (batch ∷ [])), links-append h batch) (adds up (links h) (only-links .stand up h l) batch)
+
+all-added : (up : List ℕ) (h g : History) → Lived up g → Accepted (length up) h → added up h (tables up g) ≡ tables up (g ++ h)
+unfolding added
+all-added up [] g l a = ap (tables up) (sym (append-nil g))
+all-added up (batch ∷ h) g l a =
+    let e = a batch (here refl) in
+    let k : addOf up batch (tables up g) .lent ≡ tables up (g ++ (batch ∷ [])) = ap (λ r. r .lent) (adds-more up g l batch .accepted e) in
+    let m : Lived up (g ++ (batch ∷ [])) = record { tree = l .tree; batches = λ b i. ⊎-elim (l .batches b) (λ j. let q : b ≡ batch = single j in rw q e) (parts g i) } in
+    ap (added up h) k ∙ all-added up h (g ++ (batch ∷ [])) m (λ b i. a b (there i)) ∙ ap (tables up) (append-assoc g (batch ∷ []) h)
+
+pub calls-live : CallsLive
 calls-live = record {
-  start = λ up t l e. rw (e, alone-passed up (l .tree) .1);
-  after-batches = λ up h l batch. rw (only-links .leave up h, only-links .leave up (h ++ (batch ∷ [])), links-append h batch) (adds up (links h) (only-links .stand up h l) batch);
+  start = started;
+  after-batches = adds-more;
   with-links = adds;
+  all-calls = λ up h t l e.
+      let n : Lived up [] = record { tree = l .tree; batches = λ b i. absurd (empty i) } in
+      ap (λ r. added up h (r .lent)) (started up t n e) ∙ all-added up h [] n (l .batches);
 }
 
 pub limits : Limits

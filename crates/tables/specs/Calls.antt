@@ -21,11 +21,22 @@ pub record Adds (up batch : List ℕ) (t t′ : Tables) : Type 0 where
   pub refused : (why : Fault) (place : ℕ) → batchVerdict (length up) batch ≡ Refused why place → addOf up batch t ≡ outcome (refusal why place) t
   pub rises : total (t .mark) ≤ total (t′ .mark)
 
--- from nothing to the empty history, from a history to the longer one, and from links to these with those of the batch
+-- one Add after another, each over what the one before it left
+unfoldable pub added : List ℕ → History → Tables → Tables
+added up [] t = t
+added up (batch ∷ h) t = added up h (addOf up batch t .lent)
+
+-- what Start, and then an Add for each batch, leave of lent tables
+abbrev pub ran : List ℕ → History → Tables → Tables
+ran up h t = added up h (startOf up t .lent)
+
+-- from nothing to the empty history, from a history to the longer one, and from links to these with those of the batch; so the calls of a
+-- history, one after another, leave its tables
 pub record CallsLive : Type 0 where
   pub start : (up : List ℕ) (t : Tables) → Lived up [] → lengthsVerdict up t ≡ Sound → startOf up t ≡ outcome (done (length up)) (tables up [])
   pub after-batches : (up : List ℕ) (h : History) → Lived up h → (batch : List ℕ) → Adds up batch (tables up h) (tables up (h ++ (batch ∷ [])))
   pub with-links : (up : List ℕ) (l : Cables) → Stands up l → (batch : List ℕ) → Adds up batch (tablesWith up l) (tablesWith up (l ++ pairs batch))
+  pub all-calls : (up : List ℕ) (h : History) (t : Tables) → Lived up h → lengthsVerdict up t ≡ Sound → ran up h t ≡ tables up h
 
 -- the codes are 1 to 13, and no fault has 0: code 0 means that all is done
 pub record Codes : Type 0 where

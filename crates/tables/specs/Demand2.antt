@@ -13,12 +13,13 @@ use Rattle.graph.specs.Cable.{Cables, Linked}
 use Rattle.tables.specs.Verdict.{Sound}
 use Rattle.tables.specs.Answer.{Answer}
 use Rattle.tables.specs.Tree.{hub}
-use Rattle.tables.specs.Tables.{Tables}
+use Rattle.tables.specs.Tables.{Tables, lengthsVerdict}
 use Rattle.tables.specs.Links.{Stands, tablesWith, SiteOf}
 use Rattle.tables.specs.History.{History, Lived, links, tables}
 use Rattle.tables.specs.Rules.{tablesVerdict}
 use Rattle.tables.specs.Report.{Bytes, machineBytes}
 use Rattle.tables.specs.Outcome.{Outcome, reportOf}
+use Rattle.tables.specs.Calls.{ran}
 use Rattle.tables.specs.Cables.{cables, ChokeMachine, ChokeUplink}
 
 -- the report names exactly the chokes of the site with these links; a choke hub's byte is 2, a link byte is 1 or 0
@@ -52,6 +53,8 @@ pub record Relied (up : List ℕ) (t : Tables) (r : Outcome Answer Bytes) : Type
   pub counted : Counted r
 
 pub record Demand2 : Type 0 where
+  -- after the calls of any run of batches: Start, and an Add for each
+  pub after-calls : (up : List ℕ) (h : History) (t : Tables) → Lived up h → lengthsVerdict up t ≡ Sound → ChokesNamed up (links h) (ran up h t)
   -- after any run of batches
   pub after-batches : (up : List ℕ) (h : History) → Lived up h → ChokesNamed up (links h) (tables up h)
   -- with any links that stand, however they came
