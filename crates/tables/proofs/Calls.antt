@@ -1,20 +1,22 @@
 -- The calls over the tables of links that stand: no rule is broken and every length is right, so only the batch can be refused.
 use mathlib.Core.Path.{_≡_, refl, sym, ap, _∙_}
+use mathlib.Core.Bool.{_&&_}
 use mathlib.Core.List.{List, [], _∷_, _++_, append-nil, append-assoc}
 use mathlib.Core.Logic.{⊎-elim}
 use Prim.Native.Nat.{ℕ, _+_, _-_, _*_, _%_}
 use native.Mathlib.Omega.{arith}
 use lib.ListN.{length}
+use lib.Dec.{leb, ltb, eqb}
 use Rattle.plain.specs.Table.{total}
 use Rattle.graph.specs.Cable.{Cables}
 use Rattle.graph.proofs.Members.{here, there, empty, single, parts}
 use Rattle.plain.proofs.Says.{says-le, says-eq, says-and}
 use Rattle.plain.proofs.Tabulate.{length-tabulate}
-use Rattle.tables.specs.Verdict.{Sound, checks}
+use Rattle.tables.specs.Verdict.{Fault, Sound, checks}
 use Rattle.tables.specs.Answer.{done}
-use Rattle.tables.specs.Tree.{depthOf, sizeVerdict}
+use Rattle.tables.specs.Tree.{mostMachines, depthOf, sizeVerdict}
 use Rattle.tables.specs.Tables.{Tables, fresh, lengthsVerdict}
-use Rattle.tables.specs.Batch.{pairs, numbersVerdict, batchVerdict, after, rise}
+use Rattle.tables.specs.Batch.{mostLinks, pairs, numbersVerdict, batchVerdict, after, rise}
 use Rattle.tables.specs.Links.{AllGood, Stands, tablesWith}
 use Rattle.tables.specs.History.{History, Accepted, Lived, links, leaves, tables}
 use Rattle.tables.specs.Rules.{rulesVerdict, tablesVerdict}
@@ -22,7 +24,7 @@ use Rattle.tables.specs.Outcome.{outcome, judged, startVerdict, startOf,
 use Rattle.tables.specs.Demand1.{SoundTree}
 use Rattle.tables.specs.Calls.{Adds, added, CallsLive, Limits}
 use Rattle.tables.proofs.Standing.{alone-passed, standing}
-use Rattle.tables.proofs.Verdicts.{checks-one, unless-sound}
+use Rattle.tables.proofs.Verdicts.{checks-one, unless-sound, unless-refused}
 use Rattle.tables.proofs.Lengths.{size-exact, sizes-exact}
 use Rattle.tables.proofs.Sound.{sound-tree}
 use Rattle.tables.proofs.Links.{after-append, network, told}
@@ -95,8 +97,10 @@ calls-live = record {
 }
 
 pub limits : Limits
-unfolding numbersVerdict
+unfolding sizeVerdict numbersVerdict
 limits = record {
   machines = size-exact;
   links = λ k. let t = says-and (says-eq (k % 2) 0) (says-le k (2 * 1024)) in (λ e. t .gives (unless-sound _ _ _ e), λ s. rw (t .takes s));
+  machines-value = λ n why place. unless-refused (ltb 0 n && leb n mostMachines) Fault.Size n;
+  links-value = λ k why place. unless-refused (eqb (k % 2) 0 && leb k (2 * mostLinks)) Fault.Length k;
 }

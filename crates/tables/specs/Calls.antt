@@ -43,7 +43,9 @@ pub record Codes : Type 0 where
   pub in-order : map numberOf faults ≡ 1 ∷ 2 ∷ 3 ∷ 4 ∷ 5 ∷ 6 ∷ 7 ∷ 8 ∷ 9 ∷ 10 ∷ 11 ∷ 12 ∷ 13 ∷ []
   pub not-done : (why : Fault) → numberOf why ≢ 0
 
--- 1 to 4,096 machines; an even number of numbers, at most 2,048.
+-- 1 to 4,096 machines; an even number of numbers, at most 2,048. A refusal's value is the length that is refused
 pub record Limits : Type 0 where
   pub machines : (n : ℕ) → (sizeVerdict n ≡ Sound) ↔ ((1 ≤ n) × (n ≤ 4096))
   pub links : (k : ℕ) → (numbersVerdict k ≡ Sound) ↔ ((k % 2 ≡ 0) × (k ≤ 2 * 1024))
+  pub machines-value : (n : ℕ) (why : Fault) (place : ℕ) → sizeVerdict n ≡ Refused why place → (why ≡ Fault.Size) × (place ≡ n)
+  pub links-value : (k : ℕ) (why : Fault) (place : ℕ) → numbersVerdict k ≡ Refused why place → (why ≡ Fault.Length) × (place ≡ k)
