@@ -1,7 +1,7 @@
 -- A walk is carried step by step along a renumbering; a step from a machine to itself is no step. So a choke among the images is one before:
 -- a walk there would be carried here. The other direction is the same law for the renumbering that undoes it.
-use mathlib.Core.Path.{_≡_, sym, ap, _∙_}
-use mathlib.Core.Logic.{_≢_, _↔_, Iff·symm, ⊎-map, dite}
+use mathlib.Core.Path.{_≡_, refl, sym, ap, _∙_}
+use mathlib.Core.Logic.{_≢_, _↔_, Iff·symm, inl, inr, ⊎-elim, ⊎-map, dite}
 use Prim.Native.Nat.{ℕ, _<_}
 use native.Mathlib.Decide.{ℕ-discrete}
 use native.Mathlib.Omega.{arith}
@@ -9,7 +9,7 @@ use Rattle.graph.specs.Walk.{Relation, Walk, stay, step}
 use Rattle.graph.specs.Choke.{Without, Choke}
 use Rattle.graph.specs.Cable.{Cables, Within, Linked, between, less, ChokePair}
 use Rattle.graph.specs.Renumbering.{OneToOne, KeepsLinks, class, KeepsCables}
-use Rattle.graph.specs.Statements.{MachinesCarried, CablesLinks, PairsCarried}
+use Rattle.graph.specs.Statements.{MachinesCarried, Classes, CablesLinks, PairsCarried}
 use Rattle.graph.proofs.Cables.{linked-near, linked-between, Same, same-linked, less-lone, less-sub, less-keeps}
 use Rattle.graph.proofs.Inverse.{undone}
 
@@ -97,3 +97,9 @@ pairs-carried n f E F near near′ one keeps a b a< b< ab =
           (λ e. ab (one .apart a b a< b< e)) (rw (t.undo a a<, t.undo b b<) c),
       pair-back E F near t keeps a b a< b< ab,
     )
+
+pub classes : Classes
+classes k j = (
+  λ e. dite (ℕ-discrete k j) inl (λ o. inr (omega arith, omega arith)),
+  ⊎-elim (λ (q : k ≡ j). rw q refl) (λ (a, b). omega (arith, a, b)),
+)

@@ -1,13 +1,13 @@
 -- What is proved of networks, as statements. Their proofs are in proofs/.
 use mathlib.Core.Path.{_≡_}
 use mathlib.Core.List.{List}
-use mathlib.Core.Logic.{_≢_, _↔_}
+use mathlib.Core.Logic.{_≢_, _⊎_, _↔_}
 use Prim.Native.Nat.{ℕ, _≤_, _<_}
 use Rattle.graph.specs.Walk.{Relation}
 use Rattle.graph.specs.Choke.{Choke}
 use Rattle.graph.specs.Cable.{Cables, Within, Linked, ChokePair}
 use Rattle.graph.specs.Path.{Path, InWords, TwoPaths}
-use Rattle.graph.specs.Renumbering.{OneToOne, KeepsLinks, KeepsCables}
+use Rattle.graph.specs.Renumbering.{OneToOne, KeepsLinks, class, KeepsCables}
 
 -- a path is what it is in plain words
 abbrev pub PathsInWords : Type 1
@@ -27,6 +27,10 @@ Undone = (n : ℕ) (f : ℕ → ℕ) → OneToOne n f
 abbrev pub MachinesCarried : Type 0
 MachinesCarried = (n : ℕ) (f : ℕ → ℕ) (E F : Cables) → Within n E → Within n F → OneToOne n f → KeepsLinks n f (Linked E) (Linked F)
     → (w : ℕ) → w < n → Choke n (Linked E) w ↔ Choke n (Linked F) (f w)
+
+-- the classes are none, one, two and more
+abbrev pub Classes : Type 0
+Classes = (k j : ℕ) → (class k ≡ class j) ↔ ((k ≡ j) ⊎ ((2 ≤ k) × (2 ≤ j)))
 
 -- where it keeps none, one, two and more it keeps linked pairs
 abbrev pub CablesLinks : Type 0

@@ -13,8 +13,8 @@ use Rattle.tables.specs.Tree.{mostMachines}
 use Rattle.tables.specs.Tables.{Tables}
 use Rattle.tables.specs.Link.{linked}
 use Rattle.tables.specs.Batch.{mostLinks, pairs, numbersVerdict, batchVerdict, after}
+use Rattle.tables.specs.Links.{Good}
 use Rattle.tables.proofs.Verdicts.{all-sound, unless-sound}
-use Rattle.tables.proofs.Standing.{Good}
 use Rattle.tables.proofs.Histories.{batch-good}
 use Rattle.site.specs.RingStep.{Linkable, Links, Applicable, Applied}
 

@@ -26,7 +26,7 @@ use Rattle.tables.specs.Tree.{hub}
 use Rattle.tables.specs.AsTree.{treeOf}
 use Rattle.tables.specs.Cables.{uplinks, cables, ChokeMachine, ChokeUplink}
 use Rattle.tables.specs.Demand1.{SoundTree}
-use Rattle.tables.proofs.Standing.{AllGood}
+use Rattle.tables.specs.Links.{AllGood}
 use Rattle.tables.proofs.Sound.{rooted}
 use Rattle.tables.proofs.Links.{within}
 

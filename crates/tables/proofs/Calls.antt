@@ -1,25 +1,30 @@
 -- The calls over the tables of links that stand: no rule is broken and every length is right, so only the batch can be refused.
-use mathlib.Core.Path.{_≡_, sym, ap, _∙_}
+use mathlib.Core.Path.{_≡_, refl, sym, ap, _∙_}
+use mathlib.Core.Bool.{_&&_}
 use mathlib.Core.List.{List, [], _∷_, _++_, append-nil, append-assoc}
+use mathlib.Core.Logic.{⊎-elim}
 use Prim.Native.Nat.{ℕ, _+_, _-_, _*_, _%_}
 use native.Mathlib.Omega.{arith}
 use lib.ListN.{length}
+use lib.Dec.{leb, ltb, eqb}
 use Rattle.plain.specs.Table.{total}
 use Rattle.graph.specs.Cable.{Cables}
+use Rattle.graph.proofs.Members.{here, there, empty, single, parts}
 use Rattle.plain.proofs.Says.{says-le, says-eq, says-and}
 use Rattle.plain.proofs.Tabulate.{length-tabulate}
-use Rattle.tables.specs.Verdict.{Sound, checks}
-use Rattle.tables.specs.Tree.{depthOf, sizeVerdict}
-use Rattle.tables.specs.Tables.{fresh, lengthsVerdict}
-use Rattle.tables.specs.Batch.{pairs, numbersVerdict, batchVerdict, after, rise}
-use Rattle.tables.specs.Links.{Stands, tablesWith}
-use Rattle.tables.specs.History.{History, links, leaves}
+use Rattle.tables.specs.Verdict.{Fault, Sound, checks}
+use Rattle.tables.specs.Answer.{done}
+use Rattle.tables.specs.Tree.{mostMachines, depthOf, sizeVerdict}
+use Rattle.tables.specs.Tables.{Tables, fresh, lengthsVerdict}
+use Rattle.tables.specs.Batch.{mostLinks, pairs, numbersVerdict, batchVerdict, after, rise}
+use Rattle.tables.specs.Links.{AllGood, Stands, tablesWith}
+use Rattle.tables.specs.History.{History, Accepted, Lived, links, leaves, tables}
 use Rattle.tables.specs.Rules.{rulesVerdict, tablesVerdict}
-use Rattle.tables.specs.Outcome.{judged, startVerdict, startOf, addVerdict, addOf}
+use Rattle.tables.specs.Outcome.{outcome, judged, startVerdict, startOf, addVerdict, addOf}
 use Rattle.tables.specs.Demand1.{SoundTree}
-use Rattle.tables.specs.Calls.{Adds, CallsLive, Limits}
-use Rattle.tables.proofs.Standing.{AllGood, alone-passed, standing}
-use Rattle.tables.proofs.Verdicts.{checks-one, unless-sound}
+use Rattle.tables.specs.Calls.{Adds, added, CallsLive, Limits}
+use Rattle.tables.proofs.Standing.{alone-passed, standing}
+use Rattle.tables.proofs.Verdicts.{checks-one, unless-sound, unless-refused}
 use Rattle.tables.proofs.Lengths.{size-exact, sizes-exact}
 use Rattle.tables.proofs.Sound.{sound-tree}
 use Rattle.tables.proofs.Links.{after-append, network, told}
@@ -50,10 +55,12 @@ adds up l st batch =
     let t′ = after up (pairs batch) t in
     let s = sound-tree up (standing st .tree) in
     let rose : rise t t′ + total (t .mark) ≡ total (t′ .mark) = rise-is up (pairs batch) t (told s (standing st .good) .marked .size) in
+    let came : addVerdict up batch t ≡ batchVerdict (length up) batch =
+    rw (lengths-met s (standing st .good) (standing st .size), standing st .tree, rules-met s (standing st .good)) (checks-one (batchVerdict (length up) batch)) in
     let e : rise t t′ ≡ total (t′ .mark) - total (t .mark) = omega arith in
     rw (after-append up l (pairs batch) (fresh up)) (record {
-      add = rw (lengths-met s (standing st .good) (standing st .size), standing st .tree, rules-met s (standing st .good), e)
-          (ap (λ v. judged v t (total (t′ .mark) - total (t .mark)) t′) (checks-one (batchVerdict (length up) batch)));
+      accepted = λ v. ap (λ c. judged c t (rise t t′) t′) (came ∙ v) ∙ ap (λ r. outcome (done r) t′) e;
+      refused = λ why place v. ap (λ c. judged c t (rise t t′) t′) (came ∙ v);
       rises = omega arith;
     })
 
@@ -62,17 +69,38 @@ unfolding links
 links-append [] batch = append-nil (pairs batch)
 links-append (b ∷ h) batch = ap (λ l. pairs b ++ l) (links-append h batch) ∙ sym (append-assoc (pairs b) (links h) (pairs batch))
 
-pub calls-live : CallsLive
+started : (up : List ℕ) (t : Tables) → Lived up [] → lengthsVerdict up t ≡ Sound → startOf up t ≡ outcome (done (length up)) (tables up [])
 unfolding startVerdict startOf checks judged leaves
+started up t l e = rw (e, alone-passed up (l .tree) .1)
+
+adds-more : (up : List ℕ) (h : History) → Lived up h → (batch : List ℕ) → Adds up batch (tables up h) (tables up (h ++ (batch ∷ [])))
+adds-more up h l batch =
+    rw (only-links .leave up h, only-links .leave up (h ++ (batch ∷ [])), links-append h batch) (adds up (links h) (only-links .stand up h l) batch)
+
+all-added : (up : List ℕ) (h g : History) → Lived up g → Accepted (length up) h → added up h (tables up g) ≡ tables up (g ++ h)
+unfolding added
+all-added up [] g l a = ap (tables up) (sym (append-nil g))
+all-added up (batch ∷ h) g l a =
+    let e = a batch (here refl) in
+    let k : addOf up batch (tables up g) .lent ≡ tables up (g ++ (batch ∷ [])) = ap (λ r. r .lent) (adds-more up g l batch .accepted e) in
+    let m : Lived up (g ++ (batch ∷ [])) = record { tree = l .tree; batches = λ b i. ⊎-elim (l .batches b) (λ j. let q : b ≡ batch = single j in rw q e) (parts g i) } in
+    ap (added up h) k ∙ all-added up h (g ++ (batch ∷ [])) m (λ b i. a b (there i)) ∙ ap (tables up) (append-assoc g (batch ∷ []) h)
+
+pub calls-live : CallsLive
 calls-live = record {
-  start = λ up t l e. rw (e, alone-passed up (l .tree) .1);
-  after-batches = λ up h l batch. rw (only-links .leave up h, only-links .leave up (h ++ (batch ∷ [])), links-append h batch) (adds up (links h) (only-links .stand up h l) batch);
+  start = started;
+  after-batches = adds-more;
   with-links = adds;
+  all-calls = λ up h t l e.
+      let n : Lived up [] = record { tree = l .tree; batches = λ b i. absurd (empty i) } in
+      ap (λ r. added up h (r .lent)) (started up t n e) ∙ all-added up h [] n (l .batches);
 }
 
 pub limits : Limits
-unfolding numbersVerdict
+unfolding sizeVerdict numbersVerdict
 limits = record {
   machines = size-exact;
   links = λ k. let t = says-and (says-eq (k % 2) 0) (says-le k (2 * 1024)) in (λ e. t .gives (unless-sound _ _ _ e), λ s. rw (t .takes s));
+  machines-value = λ n why place. unless-refused (ltb 0 n && leb n mostMachines) Fault.Size n;
+  links-value = λ k why place. unless-refused (eqb (k % 2) 0 && leb k (2 * mostLinks)) Fault.Length k;
 }

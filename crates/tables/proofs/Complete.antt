@@ -14,10 +14,9 @@ use Rattle.plain.specs.Table.{at}
 use Rattle.plain.specs.Member.{_∈_}
 use Rattle.graph.specs.Cable.{Cables, Linked}
 use Rattle.graph.proofs.Members.{here, there, empty, cases}
-use Rattle.tables.specs.Links.{tablesWith}
+use Rattle.tables.specs.Links.{Good, AllGood, tablesWith}
 use Rattle.tables.specs.Tables.{Tables}
 use Rattle.tables.specs.Tree.{depthOf}
-use Rattle.tables.proofs.Standing.{Good, AllGood}
 use Rattle.tables.proofs.Links.{told}
 use Rattle.tables.proofs.Kept.{Kept}
 use Rattle.tables.specs.Demand1.{SoundTree}

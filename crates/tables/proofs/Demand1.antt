@@ -12,7 +12,7 @@ use Rattle.tables.specs.Verdict.{Fault, Verdict, Sound, Refused, checks}
 use Rattle.tables.specs.Tree.{treeVerdict}
 use Rattle.tables.specs.Tables.{Tables, lengthsVerdict}
 use Rattle.tables.specs.Batch.{batchVerdict}
-use Rattle.tables.specs.Links.{tablesWith, SiteOf}
+use Rattle.tables.specs.Links.{AllGood, tablesWith, SiteOf}
 use Rattle.tables.specs.History.{Left}
 use Rattle.tables.specs.Rules.{breaks, rulesVerdict, tablesVerdict}
 use Rattle.tables.specs.Report.{Bytes}
@@ -20,8 +20,9 @@ use Rattle.tables.specs.Outcome.{judged, startOf, addVerdict, addOf, out
 use Rattle.tables.specs.Demand1.{TablesExact, Demand1}
 use Rattle.tables.proofs.Verdicts.{not-both, all-sound, checks-one, Avoids, All, checks-avoid, refuse-view, refused-at}
 use Rattle.tables.proofs.Lengths.{size-exact, lengths}
-use Rattle.tables.proofs.Standing.{AllGood, stands}
+use Rattle.tables.proofs.Standing.{stands}
 use Rattle.tables.proofs.Codes.{batch-avoids}
+use Rattle.tables.proofs.Order.{links-exact, in-order}
 use Rattle.tables.proofs.Sound.{sound-tree, trees-exact}
 use Rattle.tables.proofs.Kept.{sound-kept}
 use Rattle.tables.proofs.Histories.{left-links}
@@ -42,7 +43,9 @@ module _ (up : List ℕ) (t : Tables) (d : length (t .depth) ≡ length up) (g :
 pub site-of : (up : List ℕ) (t : Tables) → lengthsVerdict up t ≡ Sound → tablesVerdict up t ≡ Sound → SiteOf up t
 unfolding tablesVerdict
 site-of up t z v =
-    let (e, (r, _)) = all-sound _ v in
+    let a = all-sound _ v in
+    let e : treeVerdict up ≡ Sound = search a in
+    let r : rulesVerdict up t ≡ Sound = search a in
     let k = lengths up t z in
     let (l, g, q) = rules-links up t (k .depth-size) (k .group-size) (k .mark-size) e r in
     record { links = l; stands = stands (record { size = size-exact _ .1 (k .some, k .few); tree = e; good = g }); left = q }
@@ -90,6 +93,8 @@ pub demand1 : Demand1
 unfolding startOf addOf reportOf
 demand1 = record {
   trees = trees-exact;
+  links-exact = links-exact;
+  in-order = in-order;
   tables-exact = tables-exact;
   untouched = record {
     start = λ up t. answer-untouched _ _ _ _;

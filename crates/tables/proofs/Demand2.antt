@@ -1,6 +1,6 @@
 -- Demand 2: the report of the tables of links that stand is done, and its bytes are the chokes of the theory's network, which are those by
 -- taking out.
-use mathlib.Core.Path.{_≡_, refl, _∙_, subst}
+use mathlib.Core.Path.{_≡_, refl, sym, _∙_, subst}
 use mathlib.Core.List.{List, _++_}
 use mathlib.Core.Logic.{Iff·rfl, Iff·symm, Iff·trans, Iff·and}
 use Prim.Native.Nat.{ℕ}
@@ -15,6 +15,7 @@ use Rattle.tables.specs.Verdict.{Verdict, Sound, Refused}
 use Rattle.tables.specs.Tree.{hub}
 use Rattle.tables.specs.Tables.{Tables}
 use Rattle.tables.specs.Links.{Stands, tablesWith}
+use Rattle.tables.specs.History.{History, Lived, links, tables}
 use Rattle.tables.specs.Rules.{tablesVerdict}
 use Rattle.tables.specs.Report.{Bytes, machineByte, linkByte, machineBytes, linkBytes}
 use Rattle.tables.specs.Outcome.{judged, outputsVerdict, reportVerdict, reportOf}
@@ -27,9 +28,10 @@ use Rattle.tables.proofs.Lengths.{sized-is}
 use Rattle.tables.proofs.Sound.{sound-tree, rooted}
 use Rattle.tables.proofs.Links.{network, told}
 use Rattle.tables.proofs.Histories.{only-links}
-use Rattle.tables.proofs.Reports.{machine-bytes, hub-byte, link-bytes, never-three}
+use Rattle.tables.proofs.Reports.{machine-bytes, hub-byte, link-bytes, link-small, never-three}
 use Rattle.tables.proofs.Cabling.{linked-cabled, machine-cabled, uplink-cabled}
-use Rattle.tables.proofs.Calls.{rules-met, lengths-met}
+use Rattle.tables.proofs.Counting.{named-list}
+use Rattle.tables.proofs.Calls.{rules-met, lengths-met, calls-live}
 use Rattle.tables.proofs.Demand1.{rules-links, site-of, report-came}
 
 module _ {up : List ℕ} {l : Cables} (st : Stands up l) where
@@ -45,7 +47,7 @@ module _ {up : List ℕ} {l : Cables} (st : Stands up l) where
 
     counted : Counted (reportOf up t o)
     unfolding judged reportOf
-    counted = rw report-passes refl
+    counted = let k = named-list (machineBytes up t) in rw report-passes (record { list = k .list; once = k .once; those = k .those; value = k .size })
 
     reports : Reported up l (reportOf up t o)
     unfolding judged reportOf machineBytes linkBytes
@@ -58,6 +60,7 @@ module _ {up : List ℕ} {l : Cables} (st : Stands up l) where
           machines = λ w i. rw (at-tabulate (length up) (machineByte (hub up) up (t .group) (t .mark)) w i) (Iff·trans (machine-bytes N d k w i) (Iff·symm (machine-cabled up l w)));
           hub-byte = λ w i. rw (at-tabulate (length up) (machineByte (hub up) up (t .group) (t .mark)) w i) (Iff·trans (hub-byte N d k w i) (Iff·and Iff·rfl (Iff·symm (machine-cabled up l w))));
           uplinks = λ v i. rw (at-tabulate (length up) (linkByte (hub up) (t .mark)) v i) (Iff·trans (link-bytes N d k v i) (Iff·symm (uplink-cabled s l v i)));
+          link-byte = λ v i. rw (at-tabulate (length up) (linkByte (hub up) (t .mark)) v i) (link-small (hub up) (t .mark) v);
         })
 
   cross-links : CrossSpare up l
@@ -88,10 +91,14 @@ code-zero up t o e =
           subst (λ u. Counted (reportOf up u o)) (k .left) (counted (k .stands) o (sized-is _ _ _ x) (sized-is _ _ _ y));
     }
 
+after-batches : (up : List ℕ) (h : History) → Lived up h → ChokesNamed up (links h) (tables up h)
+after-batches up h l = rw (only-links .leave up h) (chokes-named (only-links .stand up h l))
+
 pub demand2 : Demand2
 unfolding machineBytes tablesVerdict
 demand2 = record {
-  after-batches = λ up h l. rw (only-links .leave up h) (chokes-named (only-links .stand up h l));
+  after-calls = λ up h t l e. subst (ChokesNamed up (links h)) (sym (calls-live .all-calls up h t l e)) (after-batches up h l);
+  after-batches = after-batches;
   with-links = λ up l. chokes-named;
   code-zero = code-zero;
   never-three = λ up t d g m v w h.

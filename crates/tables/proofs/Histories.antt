@@ -9,12 +9,12 @@ use borrow.Author.Tests.{ne-eqb, lt-leb}
 use Rattle.graph.specs.Cable.{Cables}
 use Rattle.graph.proofs.Members.{here, there, empty, parts}
 use Rattle.tables.specs.Batch.{pairs, numbersVerdict, endsVerdict, batchVerdict, after}
-use Rattle.tables.specs.Links.{tablesWith}
+use Rattle.tables.specs.Links.{Good, AllGood, tablesWith}
 use Rattle.tables.specs.History.{History, Accepted, Left, links, leaves, OnlyLinks}
 use Rattle.tables.specs.Tables.{Tables, fresh}
 use Rattle.tables.specs.Verdict.{Sound, checks}
 use Rattle.tables.proofs.Verdicts.{all-sound}
-use Rattle.tables.proofs.Standing.{Good, AllGood, ends-good, good-ends, standing}
+use Rattle.tables.proofs.Standing.{ends-good, good-ends, standing}
 use Rattle.tables.proofs.Links.{after-append}
 
 pub batch-good : (n : ℕ) (batch : List ℕ) → batchVerdict n batch ≡ Sound → AllGood n (pairs batch)

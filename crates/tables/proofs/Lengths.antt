@@ -35,10 +35,12 @@ pub sizes-exact : (n depth group mark : ℕ) → (sizesVerdict n depth group mar
 unfolding sizesVerdict
 sizes-exact n depth group mark = (
   λ e.
-      let (z, (d, (g, (m, _)))) = all-sound _ e in
-      let (one, most) = size-exact n .0 z in
-      record { some = one; few = most; depth-size = sized-is _ _ _ d; group-size = sized-is _ _ _ g; mark-size = sized-is _ _ _ m },
-  λ k. sound-all _ (size-exact n .1 (k .some, k .few), (is-sized _ depth n (k .depth-size), (is-sized _ group n (k .group-size), (is-sized _ mark n (k .mark-size), tt)))),
+      let a = all-sound _ e in
+      let (one, most) = size-exact n .0 (search a) in
+      record { some = one; few = most; depth-size = search (sized-is, a); group-size = search (sized-is, a); mark-size = search (sized-is, a) },
+  λ k.
+      let z = size-exact n .1 (k .some, k .few) in
+      sound-all _ (search is-sized),
 )
 
 pub lengths : (up : List ℕ) (t : Tables) → lengthsVerdict up t ≡ Sound → Lengths up t

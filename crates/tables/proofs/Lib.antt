@@ -18,10 +18,12 @@ pub mod Reports
 pub mod Cabling
 pub mod Rise
 pub mod Sized
+pub mod Counting
 pub mod Laws
 pub mod Calls
 pub mod Demand1
 pub mod Demand2
 pub mod Demand3
 pub mod Codes
+pub mod Order
 pub mod Worked

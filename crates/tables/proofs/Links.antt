@@ -11,12 +11,11 @@ use Rattle.graph.proofs.Members.{keep, here, there, cases, empty, parts, on-lef
 use Rattle.rings.specs.Network.{Network}
 use Rattle.tables.specs.Batch.{after}
 use Rattle.tables.specs.Link.{linked}
-use Rattle.tables.specs.Links.{tablesWith}
+use Rattle.tables.specs.Links.{AllGood, tablesWith}
 use Rattle.tables.specs.Tables.{Tables, fresh}
 use Rattle.tables.specs.Tree.{depthOf}
 use Rattle.tables.specs.AsTree.{treeOf}
 use Rattle.tables.specs.Demand1.{SoundTree}
-use Rattle.tables.proofs.Standing.{AllGood}
 use Rattle.tables.proofs.Sound.{rooted}
 use Rattle.tables.proofs.Naming.{told-more}
 use Rattle.tables.proofs.Told.{Told, told-map, fresh-told}

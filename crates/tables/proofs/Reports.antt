@@ -148,3 +148,6 @@ module _ {up : List ℕ} {L : Relation} {t : Tables} (N : Network (treeOf up) L)
         λ z. absurd (omega arith),
         λ (o, q). absurd (uplink-chokes _ _ N _ _ (uplinked h o) .0 q (k .marked .ringed v h .0 (let p : at (t .mark) v ≢ 0 = λ z. refuted a e (o, z) in omega arith))),
       ))
+
+pub link-small : (h : ℕ) (mark : List ℕ) (v : ℕ) → linkByte h mark v ≤ 1
+link-small h mark v = by-cases (not (eqb v h) && eqb (at mark v) 0) (λ t. rw t (omega arith)) (λ t. rw t (omega arith))

@@ -81,6 +81,10 @@ pub unless-sound : (b : Bool) (c : Fault) (v : ℕ) → unless b c v ≡ Sound �
 unless-sound true c v e = refl
 unless-sound false c v e = not-both refl e
 
+pub unless-refused : {why : Fault} {p : ℕ} (b : Bool) (c : Fault) (v : ℕ) → unless b c v ≡ Refused why p → (why ≡ c) × (p ≡ v)
+unless-refused true c v e = not-both e refl
+unless-refused false c v e = (cc, cc)
+
 pub cond-refused : (b : Bool) (c : Fault) (v : ℕ) (r : Verdict) → cond b (Refused c v) r ≡ Sound → (b ≡ false) × (r ≡ Sound)
 cond-refused true c v r e = not-both refl e
 cond-refused false c v r e = (refl, e)

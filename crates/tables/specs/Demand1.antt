@@ -2,18 +2,22 @@
 -- handed back are refused exactly when no run of accepted batches could have left them.
 use mathlib.Core.Path.{_≡_}
 use mathlib.Core.Bool.{true, false}
-use mathlib.Core.List.{List}
-use mathlib.Core.Logic.{_≢_, _↔_}
-use Prim.Native.Nat.{ℕ, _<_}
+use mathlib.Core.List.{List, [], _∷_, _++_}
+use mathlib.Core.Logic.{_≢_, _⊎_, _↔_}
+use Prim.Native.Nat.{ℕ, _<_, _≤_}
 use lib.ListN.{length}
+use Rattle.plain.specs.Member.{_∈_}
 use Rattle.plain.specs.Table.{at}
-use Rattle.tables.specs.Verdict.{Fault, Sound, Refused}
-use Rattle.tables.specs.Tree.{hub, Inside, Reaches, treeVerdict}
-use Rattle.tables.specs.Tables.{Tables, lengthsVerdict}
+use Rattle.graph.specs.Cable.{Cables}
+use Rattle.tables.specs.Verdict.{Fault, numberOf, Verdict, Sound, Refused}
+use Rattle.tables.specs.Tree.{hub, Inside, Reaches, sizeVerdict, entriesVerdict, hubsVerdict, reachVerdict, treeVerdict}
+use Rattle.tables.specs.Tables.{Tables, sized, lengthsVerdict}
+use Rattle.tables.specs.Batch.{pairs, numbersVerdict, endsVerdict, batchVerdict}
+use Rattle.tables.specs.Links.{AllGood, FirstBad}
 use Rattle.tables.specs.History.{Left}
 use Rattle.tables.specs.Rules.{breaks, rulesVerdict}
 use Rattle.tables.specs.Report.{Bytes}
-use Rattle.tables.specs.Outcome.{startOf, addOf, reportOf}
+use Rattle.tables.specs.Outcome.{startVerdict, startOf, addVerdict, addOf, reportVerdict, reportOf}
 
 -- a sound tree: every entry a machine, one hub, and every machine reaches it
 pub record SoundTree (up : List ℕ) : Type 0 where
@@ -23,9 +27,20 @@ pub record SoundTree (up : List ℕ) : Type 0 where
   pub only : (v : ℕ) → v < length up → at up v ≡ v → v ≡ hub up
   pub reaches : (v : ℕ) → v < length up → Reaches up v
 
--- a tree is accepted exactly where it is sound, and code 5 names the least machine that no number of steps leads to the hub
+-- no machine names itself, and v is n
+abbrev pub NoHub : List ℕ → ℕ → Type 0
+NoHub up v = (v ≡ length up) × ((u : ℕ) → u < length up → at up u ≢ u)
+
+-- v names itself, and so does one machine below it
+abbrev pub SecondHub : List ℕ → ℕ → Type 0
+SecondHub up v = (v < length up) × (at up v ≡ v) × ((h : ℕ) × (h < v) × (at up h ≡ h) × ((u : ℕ) → u < v → at up u ≡ u → u ≡ h))
+
+-- a tree is accepted exactly where it is sound; code 3 names the least machine whose up is none, code 4 n or the second least hub, and code 5 the
+-- least machine that no number of steps leads to the hub
 pub record TreesExact : Type 0 where
   pub sound : (up : List ℕ) → (treeVerdict up ≡ Sound) ↔ SoundTree up
+  pub entry : (up : List ℕ) (v : ℕ) → treeVerdict up ≡ Refused Fault.Entry v → (v < length up) × (length up ≤ at up v) × ((u : ℕ) → u < v → at up u < length up)
+  pub hubs : (up : List ℕ) (v : ℕ) → treeVerdict up ≡ Refused Fault.Hubs v → NoHub up v ⊎ SecondHub up v
   pub never : (up : List ℕ) (v : ℕ) → treeVerdict up ≡ Refused Fault.Stray v → (v < length up) × (¬ Reaches up v) × ((u : ℕ) → u < v → Reaches up u)
 
 -- over a sound tree, tables of the right lengths are refused with 6 exactly where no history leaves them, with the least machine breaking a rule
@@ -35,6 +50,36 @@ pub record TablesExact (up : List ℕ) (t : Tables) : Type 0 where
   pub report-refused : (o : Bytes) → length (o .machines) ≡ length up → length (o .links) ≡ length up → (reportOf up t o .answer .code ≡ 6) ↔ (¬ Left up t)
   pub place : (v : ℕ) → rulesVerdict up t ≡ Refused Fault.Rule v → (v < length up) × (breaks up t v ≡ true) × ((u : ℕ) → u < v → breaks up t u ≡ false)
 
+-- a batch is accepted exactly where its length is and each of its links is good; 8 and 9 are looked for link by link, and 8 goes first within a link
+pub record LinksExact : Type 0 where
+  pub sound : (n : ℕ) (batch : List ℕ) → (batchVerdict n batch ≡ Sound) ↔ ((numbersVerdict (length batch) ≡ Sound) × AllGood n (pairs batch))
+  pub place : (n : ℕ) (links : Cables) (why : Fault) (i : ℕ) → endsVerdict n 0 links ≡ Refused why i → FirstBad n links why i
+
+-- the verdict is that of one of these checks, and no other of them refuses with a lesser number
+pub record FirstOf (v : Verdict) (vs : List Verdict) : Type 0 where
+  pub sound : v ≡ Sound → (u : Verdict) → u ∈ vs → u ≡ Sound
+  pub one : (why : Fault) (place : ℕ) → v ≡ Refused why place → v ∈ vs
+  pub least : (why : Fault) (place : ℕ) → v ≡ Refused why place → (why′ : Fault) (place′ : ℕ) → Refused why′ place′ ∈ vs → numberOf why ≤ numberOf why′
+
+-- the checks of one kind, each by itself
+abbrev pub sizeChecks : List ℕ → Tables → List Verdict
+sizeChecks up t = sizeVerdict (length up) ∷ sized 1 (length (t .depth)) (length up) ∷ sized 2 (length (t .group)) (length up) ∷ sized 3 (length (t .mark)) (length up) ∷ []
+
+abbrev pub outputChecks : List ℕ → Bytes → List Verdict
+outputChecks up o = sized 4 (length (o .machines)) (length up) ∷ sized 5 (length (o .links)) (length up) ∷ []
+
+abbrev pub treeChecks : List ℕ → List Verdict
+treeChecks up = entriesVerdict up ∷ hubsVerdict up ∷ reachVerdict up ∷ []
+
+abbrev pub batchChecks : List ℕ → List ℕ → List Verdict
+batchChecks up batch = numbersVerdict (length batch) ∷ endsVerdict (length up) 0 (pairs batch) ∷ []
+
+-- checks run in the order of the codes
+pub record InOrder : Type 0 where
+  pub start : (up : List ℕ) (t : Tables) → FirstOf (startVerdict up t) (sizeChecks up t ++ treeChecks up)
+  pub add : (up batch : List ℕ) (t : Tables) → FirstOf (addVerdict up batch t) (sizeChecks up t ++ (treeChecks up ++ (rulesVerdict up t ∷ batchChecks up batch)))
+  pub report : (up : List ℕ) (t : Tables) (o : Bytes) → FirstOf (reportVerdict up t o) (sizeChecks up t ++ (outputChecks up o ++ (treeChecks up ++ (rulesVerdict up t ∷ []))))
+
 -- on a refusal every lent slice is untouched
 pub record Untouched : Type 0 where
   pub start : (up : List ℕ) (t : Tables) → startOf up t .answer .code ≢ 0 → startOf up t .lent ≡ t
@@ -43,5 +88,7 @@ pub record Untouched : Type 0 where
 
 pub record Demand1 : Type 0 where
   pub trees : TreesExact
+  pub links-exact : LinksExact
+  pub in-order : InOrder
   pub tables-exact : (up : List ℕ) (t : Tables) → lengthsVerdict up t ≡ Sound → treeVerdict up ≡ Sound → TablesExact up t
   pub untouched : Untouched

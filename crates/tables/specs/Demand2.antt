@@ -5,30 +5,37 @@ use mathlib.Core.List.{List, _∷_, _++_}
 use mathlib.Core.Logic.{_≢_, _↔_}
 use Prim.Native.Nat.{ℕ, _<_, _≤_}
 use lib.ListN.{length}
+use Rattle.plain.specs.Member.{_∈_}
 use Rattle.plain.specs.Table.{at}
 use Rattle.graph.specs.Walk.{Walk}
+use Rattle.graph.specs.Path.{Once}
 use Rattle.graph.specs.Cable.{Cables, Linked}
 use Rattle.tables.specs.Verdict.{Sound}
 use Rattle.tables.specs.Answer.{Answer}
 use Rattle.tables.specs.Tree.{hub}
-use Rattle.tables.specs.Tables.{Tables}
+use Rattle.tables.specs.Tables.{Tables, lengthsVerdict}
 use Rattle.tables.specs.Links.{Stands, tablesWith, SiteOf}
 use Rattle.tables.specs.History.{History, Lived, links, tables}
 use Rattle.tables.specs.Rules.{tablesVerdict}
-use Rattle.tables.specs.Report.{Bytes, named, machineBytes}
+use Rattle.tables.specs.Report.{Bytes, machineBytes}
 use Rattle.tables.specs.Outcome.{Outcome, reportOf}
+use Rattle.tables.specs.Calls.{ran}
 use Rattle.tables.specs.Cables.{cables, ChokeMachine, ChokeUplink}
 
--- the report names exactly the chokes of the site with these links; a choke hub's byte is 2
+-- the report names exactly the chokes of the site with these links; a choke hub's byte is 2, a link byte is 1 or 0
 pub record Reported (up : List ℕ) (links : Cables) (r : Outcome Answer Bytes) : Type 0 where
   pub done : r .answer .code ≡ 0
   pub machines : (w : ℕ) → w < length up → (at (r .lent .machines) w ≢ 0) ↔ ChokeMachine up links w
   pub hub-byte : (w : ℕ) → w < length up → (at (r .lent .machines) w ≡ 2) ↔ ((w ≡ hub up) × ChokeMachine up links w)
   pub uplinks : (v : ℕ) → v < length up → (at (r .lent .links) v ≡ 1) ↔ ChokeUplink up links v
+  pub link-byte : (v : ℕ) → v < length up → at (r .lent .links) v ≤ 1
 
--- its value is the number of machines that it names
-abbrev pub Counted : Outcome Answer Bytes → Type 0
-Counted r = r .answer .value ≡ named (r .lent .machines)
+-- its value is the number of machines that it names: there is a list of them, each once, of that length
+pub record Counted (r : Outcome Answer Bytes) : Type 0 where
+  pub list : List ℕ
+  pub once : Once list
+  pub those : (w : ℕ) → (w ∈ list) ↔ (at (r .lent .machines) w ≢ 0)
+  pub value : length list ≡ r .answer .value
 
 -- cross links are never chokes: taking one out leaves its ends joined
 abbrev pub CrossSpare : List ℕ → Cables → Type 0
@@ -46,6 +53,8 @@ pub record Relied (up : List ℕ) (t : Tables) (r : Outcome Answer Bytes) : Type
   pub counted : Counted r
 
 pub record Demand2 : Type 0 where
+  -- after the calls of any run of batches: Start, and an Add for each
+  pub after-calls : (up : List ℕ) (h : History) (t : Tables) → Lived up h → lengthsVerdict up t ≡ Sound → ChokesNamed up (links h) (ran up h t)
   -- after any run of batches
   pub after-batches : (up : List ℕ) (h : History) → Lived up h → ChokesNamed up (links h) (tables up h)
   -- with any links that stand, however they came
