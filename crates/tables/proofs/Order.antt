@@ -12,9 +12,9 @@ use Rattle.plain.specs.Member.{_∈_}
 use Rattle.plain.specs.Table.{at}
 use Rattle.graph.proofs.Members.{here, there, cases, empty}
 use Rattle.tables.specs.Verdict.{Fault, numberOf, Verdict, Sound, Refused, checks, unless, refuseLeast}
-use Rattle.tables.specs.Tree.{mostMachines, hub, depthOf, sizeVerdict, entriesVerdict, hubsVerdict, reachVerdict, treeVerdict}
-use Rattle.tables.specs.Tables.{Tables, sized, sizesVerdict}
-use Rattle.tables.specs.Batch.{mostLinks, pairs, numbersVerdict, endsVerdict, batchVerdict}
+use Rattle.tables.specs.Tree.{mostMachines, hub, depthOf, sizeVerdict, treeVerdict}
+use Rattle.tables.specs.Tables.{Tables, sizesVerdict}
+use Rattle.tables.specs.Batch.{mostLinks, pairs, numbersVerdict, batchVerdict}
 use Rattle.tables.specs.Links.{FirstBad}
 use Rattle.tables.specs.Rules.{breaks, rulesVerdict, tablesVerdict}
 use Rattle.tables.specs.Report.{Bytes}

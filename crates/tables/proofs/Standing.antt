@@ -3,12 +3,12 @@ use mathlib.Core.Path.{_≡_, refl, ap, subst}
 use mathlib.Core.Bool.{_||_}
 use mathlib.Core.List.{List, [], _∷_}
 use mathlib.Core.Logic.{inl, inr, ⊎-elim}
-use Prim.Native.Nat.{ℕ, suc, _+_, _<_, _≤_}
+use Prim.Native.Nat.{ℕ, suc, _+_, _≤_}
 use native.Mathlib.Omega.{arith}
 use lib.ListN.{length}
 use lib.Dec.{eqb, leb}
 use borrow.Author.Tests.{eqb-true, eqb-false, ne-eqb, lt-leb}
-use Rattle.plain.proofs.Says.{by-cases, says-le, says-eq, says-or, refuted}
+use Rattle.plain.proofs.Says.{by-cases, says-le, says-or, refuted}
 use Rattle.graph.specs.Cable.{Cables}
 use Rattle.graph.proofs.Members.{here, there, cases, empty}
 use Rattle.tables.specs.Verdict.{Fault, Sound, Refused}

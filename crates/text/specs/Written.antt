@@ -13,10 +13,6 @@ use Rattle.tables.specs.Report.{bytesOf}
 use Rattle.text.specs.Text.{uplinkLines, reportText, refusalText}
 use Rattle.plain.specs.Laid.{laid}
 
--- so many bytes are room for the text of any report, and of any refusal
-abbrev pub mostText : ℕ
-mostText = 24 * mostMachines + 64
-
 -- where there is room, the length of the text, and the text laid over the front of the buffer; else 0, and the buffer as it came
 abbrev pub written : Bool → List ℕ → List ℕ → Outcome ℕ (List ℕ)
 written true text buffer = outcome (length text) (laid text buffer)

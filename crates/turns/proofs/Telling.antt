@@ -13,7 +13,6 @@ use Rattle.tables.specs.Tree.{mostMachines}
 use Rattle.tables.specs.Answer.{refusal}
 use Rattle.tables.specs.Outcome.{outcome}
 use Rattle.text.specs.Text.{refusalText}
-use Rattle.text.specs.Written.{mostText}
 use Rattle.sitefile.specs.declared.Reader.{Reader}
 use Rattle.sitefile.specs.declared.Step.{Step}
 use Rattle.sitefile.specs.declared.Step.the-variants as steps
@@ -25,7 +24,7 @@ use Rattle.turns.specs.declared.Turn.{Turn}
 use Rattle.turns.specs.declared.Turn.the-variants as turns
 use Rattle.turns.specs.Printed.{mostBytes}
 use Rattle.turns.specs.Turn.{desk, toldBy, turnOf, shown}
-use Rattle.turns.specs.Telling.{ShowDue, TellDue}
+use Rattle.turns.specs.Telling.{mostText, ShowDue, TellDue}
 
 pub record Further (file : List ℕ) (r r′ : Reader) : Type 0 where
   pub further : r .place < r′ .place

@@ -13,7 +13,7 @@ use Rattle.tables.specs.Tree.{mostMachines}
 use Rattle.tables.specs.Answer.{refusal}
 use Rattle.tables.specs.Outcome.{Outcome, outcome}
 use Rattle.text.specs.Text.{refusalText}
-use Rattle.text.specs.Written.{mostText, written, refusalWritten, reportFits, reportWritten}
+use Rattle.text.specs.Written.{written, refusalWritten, reportFits, reportWritten}
 use Rattle.sitefile.specs.declared.Reader.{Reader}
 use Rattle.sitefile.specs.declared.Step.{Step}
 use Rattle.sitefile.specs.declared.Step.the-variants as steps
@@ -22,7 +22,7 @@ use Rattle.turns.specs.declared.Turn.{Turn}
 use Rattle.turns.specs.declared.Turn.the-variants as turns
 use Rattle.turns.specs.Printed.{mostBytes}
 use Rattle.turns.specs.Turn.{Desk, desk, toldBy, turnOf}
-use Rattle.turns.specs.Telling.{ShowDue, showing, TellDue}
+use Rattle.turns.specs.Telling.{mostText, ShowDue, showing, TellDue}
 
 -- there is room for the text of a report
 pub shows : {k : ℕ} {text′ : List ℕ} (n : ℕ) (up machines links text : List ℕ) → ShowDue n (length up) (length machines) (length links) (length text)

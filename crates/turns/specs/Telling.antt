@@ -3,16 +3,20 @@
 use mathlib.Core.Path.{_≡_}
 use mathlib.Core.Bool.{true}
 use mathlib.Core.List.{List}
-use Prim.Native.Nat.{ℕ, _≤_}
+use Prim.Native.Nat.{ℕ, _+_, _*_, _≤_}
 use lib.ListN.{take}
 use Rattle.tables.specs.Tree.{mostMachines}
 use Rattle.tables.specs.Report.{bytesOf}
 use Rattle.tables.specs.Outcome.{Outcome}
 use Rattle.text.specs.Text.{reportText}
-use Rattle.text.specs.Written.{mostText, written}
+use Rattle.text.specs.Written.{written}
 use Rattle.sitefile.specs.declared.Reader.{Reader}
 use Rattle.sitefile.specs.declared.Step.{Step}
 use Rattle.sitefile.specs.declared.Step.the-variants as steps
+
+-- so many bytes are room for the text of any report, and of any refusal
+abbrev pub mostText : ℕ
+mostText = 24 * mostMachines + 64
 
 -- what the text of a report on the first n machines is laid under
 pub record ShowDue (n up machines links text : ℕ) : Type 0 where
