@@ -11,7 +11,7 @@ use Rattle.graph.specs.Cable.{Cables}
 use Rattle.tables.specs.Verdict.{Fault, numberOf, faults, Refused}
 use Rattle.tables.specs.Batch.{mostLinks, pairs, numbersVerdict, endsVerdict, batchVerdict}
 use Rattle.tables.specs.Calls.{Codes}
-use Rattle.tables.specs.Links.{Bad}
+use Rattle.tables.specs.Demand1.{Bad}
 use Rattle.tables.proofs.Verdicts.{Avoids, checks-avoid, unless-avoids}
 use Rattle.tables.proofs.Standing.{first-bad}
 

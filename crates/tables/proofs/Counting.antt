@@ -2,7 +2,7 @@
 use mathlib.Core.Path.{_≡_, refl}
 use mathlib.Core.Bool.{Bool, true, false, not}
 use mathlib.Core.List.{List, [], _∷_, map, Memᴰ·map, Memᴰ·of-map}
-use mathlib.Core.Logic.{_≢_, ⊎-elim, _↔_, dite}
+use mathlib.Core.Logic.{⊎-elim, dite}
 use Prim.Native.Nat.{ℕ, zero, suc, _<_}
 use native.Mathlib.Omega.{arith}
 use native.Mathlib.Decide.{decLt}
@@ -15,6 +15,7 @@ use Rattle.plain.proofs.Says.{by-cases, clash, says-not, says-eq}
 use Rattle.graph.specs.Path.{Once}
 use Rattle.graph.proofs.Members.{here, there, cases, empty}
 use Rattle.tables.specs.Report.{named}
+use Rattle.tables.specs.Demand2.{Counted}
 
 record Listing (n : ℕ) (p : ℕ → Bool) : Type 0 where
   list : List ℕ
@@ -67,13 +68,7 @@ listing (suc n) p =
     further l f (suc w) m = let (h, e) = f w (suc-on l m) in (omega (arith, h), e)
 
 -- the bytes that are not 0
-pub record NamedList (bytes : List ℕ) : Type 0 where
-  pub list : List ℕ
-  pub once : Once list
-  pub those : (w : ℕ) → (w ∈ list) ↔ (at bytes w ≢ 0)
-  pub size : length list ≡ named bytes
-
-pub named-list : (bytes : List ℕ) → NamedList bytes
+pub named-list : (bytes : List ℕ) → Counted bytes (named bytes)
 unfolding named
 named-list bytes =
     let k = listing (length bytes) (λ w. not (eqb (at bytes w) 0)) in

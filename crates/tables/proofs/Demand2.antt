@@ -45,9 +45,9 @@ module _ {up : List ℕ} {l : Cables} (st : Stands up l) where
     report-passes : reportVerdict up t o ≡ Sound
     report-passes = report-came up t (lengths-met s (standing st .good) (standing st .size)) (standing st .tree) o a b ∙ sound-all _ (rules-met s (standing st .good), tt)
 
-    counted : Counted (reportOf up t o)
+    counted : Counted (reportOf up t o .lent .machines) (reportOf up t o .answer .value)
     unfolding judged reportOf
-    counted = let k = named-list (machineBytes up t) in rw report-passes (record { list = k .list; once = k .once; those = k .those; value = k .size })
+    counted = rw report-passes (named-list (machineBytes up t))
 
     reports : Reported up l (reportOf up t o)
     unfolding judged reportOf machineBytes linkBytes
@@ -88,7 +88,7 @@ code-zero up t o e =
       reported = λ k. subst (λ u. Reported up (k .links) (reportOf up u o)) (k .left)
           (reports (k .stands) o (sized-is _ _ _ x) (sized-is _ _ _ y));
       counted = let k = site-of up t lengths tables in
-          subst (λ u. Counted (reportOf up u o)) (k .left) (counted (k .stands) o (sized-is _ _ _ x) (sized-is _ _ _ y));
+          subst (λ u. Counted (reportOf up u o .lent .machines) (reportOf up u o .answer .value)) (k .left) (counted (k .stands) o (sized-is _ _ _ x) (sized-is _ _ _ y));
     }
 
 after-batches : (up : List ℕ) (h : History) → Lived up h → ChokesNamed up (links h) (tables up h)
@@ -98,7 +98,6 @@ pub demand2 : Demand2
 unfolding machineBytes tablesVerdict
 demand2 = record {
   after-calls = λ up h t l e. subst (ChokesNamed up (links h)) (sym (calls-live .all-calls up h t l e)) (after-batches up h l);
-  after-batches = after-batches;
   with-links = λ up l. chokes-named;
   code-zero = code-zero;
   never-three = λ up t d g m v w h.

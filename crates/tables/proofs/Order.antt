@@ -12,14 +12,13 @@ use Rattle.plain.specs.Member.{_∈_}
 use Rattle.plain.specs.Table.{at}
 use Rattle.graph.proofs.Members.{here, there, cases, empty}
 use Rattle.tables.specs.Verdict.{Fault, numberOf, Verdict, Sound, Refused, checks, unless, refuseLeast}
-use Rattle.tables.specs.Tree.{mostMachines, hub, depthOf, sizeVerdict, treeVerdict}
+use Rattle.tables.specs.Tree.{mostMachines, hub, depthOf, sizeVerdict, treeVerdict, aloneVerdict}
 use Rattle.tables.specs.Tables.{Tables, sizesVerdict}
 use Rattle.tables.specs.Batch.{mostLinks, pairs, numbersVerdict, batchVerdict}
-use Rattle.tables.specs.Links.{FirstBad}
 use Rattle.tables.specs.Rules.{breaks, rulesVerdict, tablesVerdict}
 use Rattle.tables.specs.Report.{Bytes}
 use Rattle.tables.specs.Outcome.{startVerdict, addVerdict, outputsVerdict, reportVerdict}
-use Rattle.tables.specs.Demand1.{LinksExact, FirstOf, sizeChecks, outputChecks, treeChecks, batchChecks, InOrder}
+use Rattle.tables.specs.Demand1.{LinksExact, FirstOf, sizeChecks, outputChecks, treeChecks, batchChecks, InOrder, FirstBad}
 use Rattle.tables.proofs.Verdicts.{not-both, All, all-sound, sound-all, refuse-view}
 use Rattle.tables.proofs.Standing.{ends-good, good-ends, first-bad}
 use Rattle.tables.proofs.Codes.{ends-number}
@@ -124,6 +123,10 @@ output-rising up o vs r =
       (2, omega arith, unless-between 2 2 Fault.Slice (omega arith) (omega arith) (eqb (length (o .links)) n) 5, r),
     )
 
+alone-rising : (up : List ℕ) (vs : List Verdict) → Rising 2 vs → Rising 1 (sizeVerdict (length up) ∷ vs)
+unfolding sizeVerdict
+alone-rising up vs r = (2, omega arith, unless-between 1 2 Fault.Size (omega arith) (omega arith) (ltb 0 (length up) && leb (length up) mostMachines) (length up), r)
+
 tree-rising : (up : List ℕ) (vs : List Verdict) → Rising 5 vs → Rising 2 (treeChecks up ++ vs)
 tree-rising up vs r =
     let n = length up in (
@@ -142,30 +145,32 @@ rules-rising : (up : List ℕ) (t : Tables) (vs : List Verdict) → Rising 6 vs 
 unfolding rulesVerdict
 rules-rising up t vs r = (6, omega arith, least-between 5 6 Fault.Rule (omega arith) (omega arith) (length up) (breaks up t), r)
 
-batch-rising : (up batch : List ℕ) → Rising 6 (batchChecks up batch)
+batch-rising : (n : ℕ) (batch : List ℕ) → Rising 6 (batchChecks n batch)
 unfolding numbersVerdict
-batch-rising up batch =
+batch-rising n batch =
     let k = length batch in (
       7,
       omega arith,
       unless-between 6 7 Fault.Length (omega arith) (omega arith) (eqb (k % 2) 0 && leb k (2 * mostLinks)) k,
-      (9, omega arith, λ why p e. let (a, b) = ends-number (length up) (pairs batch) why p e in (omega (arith, a), b), tt),
+      (9, omega arith, λ why p e. let (a, b) = ends-number n (pairs batch) why p e in (omega (arith, a), b), tt),
     )
 
 pub in-order : InOrder
-unfolding startVerdict addVerdict reportVerdict sizesVerdict outputsVerdict treeVerdict tablesVerdict batchVerdict
+unfolding aloneVerdict startVerdict addVerdict reportVerdict sizesVerdict outputsVerdict treeVerdict tablesVerdict batchVerdict
 in-order = record {
+  tree = λ up. first 1 (sizeVerdict (length up) ∷ treeChecks up) (flat-in (sizeVerdict (length up) ∷ []) (treeChecks up) []) (alone-rising up (treeChecks up) (tree-rising up [] tt));
+  batch = λ n batch. first 6 (batchChecks n batch) refl (batch-rising n batch);
   start = λ up t.
       let s = sizeChecks up t in
       first 1 (s ++ treeChecks up) (flat s (treeVerdict up ∷ []) ∙ flat-in s (treeChecks up) []) (size-rising up t (treeChecks up) (tree-rising up [] tt));
   add = λ up batch t.
       let s = sizeChecks up t in
       let b = batchVerdict (length up) batch in
-      let k = rulesVerdict up t ∷ batchChecks up batch in
+      let k = rulesVerdict up t ∷ batchChecks (length up) batch in
       first 1 (s ++ (treeChecks up ++ k))
       (flat s (tablesVerdict up t ∷ b ∷ []) ∙ flat-in s (treeVerdict up ∷ rulesVerdict up t ∷ []) (b ∷ [])
-      ∙ flat-in s (treeChecks up) (rulesVerdict up t ∷ b ∷ []) ∙ flat-in (s ++ (treeChecks up ++ (rulesVerdict up t ∷ []))) (batchChecks up batch) [])
-      (size-rising up t (treeChecks up ++ k) (tree-rising up k (rules-rising up t (batchChecks up batch) (batch-rising up batch))));
+      ∙ flat-in s (treeChecks up) (rulesVerdict up t ∷ b ∷ []) ∙ flat-in (s ++ (treeChecks up ++ (rulesVerdict up t ∷ []))) (batchChecks (length up) batch) [])
+      (size-rising up t (treeChecks up ++ k) (tree-rising up k (rules-rising up t (batchChecks (length up) batch) (batch-rising (length up) batch))));
   report = λ up t o.
       let s = sizeChecks up t in
       let q = outputChecks up o in
@@ -177,11 +182,7 @@ in-order = record {
 }
 
 pub links-exact : LinksExact
-unfolding batchVerdict
 links-exact = record {
-  sound = λ n batch. (
-    λ e. let (k, (l, _)) = all-sound _ e in (k, ends-good n 0 (pairs batch) l),
-    λ (k, g). sound-all _ (k, (good-ends n 0 (pairs batch) g, tt)),
-  );
+  sound = λ n l. (ends-good n 0 l, good-ends n 0 l);
   place = λ n l why i e. let (j, z, r) = first-bad n 0 l why i e in let q : j ≡ i = omega (arith, z) in subst (FirstBad n l why) q r;
 }

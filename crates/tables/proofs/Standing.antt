@@ -14,7 +14,8 @@ use Rattle.graph.proofs.Members.{here, there, cases, empty}
 use Rattle.tables.specs.Verdict.{Fault, Sound, Refused}
 use Rattle.tables.specs.Tree.{sizeVerdict, treeVerdict, aloneVerdict}
 use Rattle.tables.specs.Batch.{endsVerdict}
-use Rattle.tables.specs.Links.{Good, AllGood, Bad, FirstBad, Stands}
+use Rattle.tables.specs.Links.{Good, AllGood, Stands}
+use Rattle.tables.specs.Demand1.{Bad, FirstBad}
 use Rattle.tables.proofs.Verdicts.{not-both, all-sound, sound-all, cond-refused}
 
 pub alone-passed : (up : List ℕ) → aloneVerdict up ≡ Sound → (sizeVerdict (length up) ≡ Sound) × (treeVerdict up ≡ Sound)

@@ -10,10 +10,10 @@ use Rattle.plain.specs.Member.{_∈_}
 use Rattle.plain.specs.Table.{at}
 use Rattle.graph.specs.Cable.{Cables}
 use Rattle.tables.specs.Verdict.{Fault, numberOf, Verdict, Sound, Refused}
-use Rattle.tables.specs.Tree.{hub, Inside, Reaches, sizeVerdict, entriesVerdict, hubsVerdict, reachVerdict, treeVerdict}
+use Rattle.tables.specs.Tree.{hub, Inside, Reaches, sizeVerdict, entriesVerdict, hubsVerdict, reachVerdict, treeVerdict, aloneVerdict}
 use Rattle.tables.specs.Tables.{Tables, sized, lengthsVerdict}
 use Rattle.tables.specs.Batch.{pairs, numbersVerdict, endsVerdict, batchVerdict}
-use Rattle.tables.specs.Links.{AllGood, FirstBad}
+use Rattle.tables.specs.Links.{AllGood}
 use Rattle.tables.specs.History.{Left}
 use Rattle.tables.specs.Rules.{breaks, rulesVerdict}
 use Rattle.tables.specs.Report.{Bytes}
@@ -31,7 +31,7 @@ pub record SoundTree (up : List ℕ) : Type 0 where
 abbrev pub NoHub : List ℕ → ℕ → Type 0
 NoHub up v = (v ≡ length up) × ((u : ℕ) → u < length up → at up u ≢ u)
 
--- v names itself, and so does one machine below it
+-- v names itself, and so does just one machine below it
 abbrev pub SecondHub : List ℕ → ℕ → Type 0
 SecondHub up v = (v < length up) × (at up v ≡ v) × ((h : ℕ) × (h < v) × (at up h ≡ h) × ((u : ℕ) → u < v → at up u ≡ u → u ≡ h))
 
@@ -50,9 +50,24 @@ pub record TablesExact (up : List ℕ) (t : Tables) : Type 0 where
   pub report-refused : (o : Bytes) → length (o .machines) ≡ length up → length (o .links) ≡ length up → (reportOf up t o .answer .code ≡ 6) ↔ (¬ Left up t)
   pub place : (v : ℕ) → rulesVerdict up t ≡ Refused Fault.Rule v → (v < length up) × (breaks up t v ≡ true) × ((u : ℕ) → u < v → breaks up t u ≡ false)
 
--- a batch is accepted exactly where its length is and each of its links is good; 8 and 9 are looked for link by link, and 8 goes first within a link
+-- what is wrong with a link: an end is no machine; or, where both are, it joins a machine to itself
+pub data Bad (n : ℕ) (p : ℕ × ℕ) : Fault → Type 0 where
+  end : (n ≤ p .0) ⊎ (n ≤ p .1) → Bad n p Fault.End
+  loop : p .0 < n → p .1 < n → p .0 ≡ p .1 → Bad n p Fault.Loop
+
+-- the first link that is not good is the one of index i, and this is what is wrong with it
+pub record FirstBad (n : ℕ) (links : Cables) (why : Fault) (i : ℕ) : Type 0 where
+  pub before : Cables
+  pub link : ℕ × ℕ
+  pub behind : Cables
+  pub whole : links ≡ before ++ (link ∷ behind)
+  pub index : length before ≡ i
+  pub good : AllGood n before
+  pub bad : Bad n link why
+
+-- links are accepted exactly where each of them is good; 8 and 9 are looked for link by link, and 8 goes first within a link
 pub record LinksExact : Type 0 where
-  pub sound : (n : ℕ) (batch : List ℕ) → (batchVerdict n batch ≡ Sound) ↔ ((numbersVerdict (length batch) ≡ Sound) × AllGood n (pairs batch))
+  pub sound : (n : ℕ) (links : Cables) → (endsVerdict n 0 links ≡ Sound) ↔ AllGood n links
   pub place : (n : ℕ) (links : Cables) (why : Fault) (i : ℕ) → endsVerdict n 0 links ≡ Refused why i → FirstBad n links why i
 
 -- the verdict is that of one of these checks, and no other of them refuses with a lesser number
@@ -61,7 +76,7 @@ pub record FirstOf (v : Verdict) (vs : List Verdict) : Type 0 where
   pub one : (why : Fault) (place : ℕ) → v ≡ Refused why place → v ∈ vs
   pub least : (why : Fault) (place : ℕ) → v ≡ Refused why place → (why′ : Fault) (place′ : ℕ) → Refused why′ place′ ∈ vs → numberOf why ≤ numberOf why′
 
--- the checks of one kind, each by itself
+-- the checks of one kind, each by itself: said once more, so that the order in which a call runs them is held to their numbers
 abbrev pub sizeChecks : List ℕ → Tables → List Verdict
 sizeChecks up t = sizeVerdict (length up) ∷ sized 1 (length (t .depth)) (length up) ∷ sized 2 (length (t .group)) (length up) ∷ sized 3 (length (t .mark)) (length up) ∷ []
 
@@ -71,13 +86,15 @@ outputChecks up o = sized 4 (length (o .machines)) (length up) ∷ sized 5 (leng
 abbrev pub treeChecks : List ℕ → List Verdict
 treeChecks up = entriesVerdict up ∷ hubsVerdict up ∷ reachVerdict up ∷ []
 
-abbrev pub batchChecks : List ℕ → List ℕ → List Verdict
-batchChecks up batch = numbersVerdict (length batch) ∷ endsVerdict (length up) 0 (pairs batch) ∷ []
+abbrev pub batchChecks : ℕ → List ℕ → List Verdict
+batchChecks n batch = numbersVerdict (length batch) ∷ endsVerdict n 0 (pairs batch) ∷ []
 
 -- checks run in the order of the codes
 pub record InOrder : Type 0 where
+  pub tree : (up : List ℕ) → FirstOf (aloneVerdict up) (sizeVerdict (length up) ∷ treeChecks up)
+  pub batch : (n : ℕ) (batch : List ℕ) → FirstOf (batchVerdict n batch) (batchChecks n batch)
   pub start : (up : List ℕ) (t : Tables) → FirstOf (startVerdict up t) (sizeChecks up t ++ treeChecks up)
-  pub add : (up batch : List ℕ) (t : Tables) → FirstOf (addVerdict up batch t) (sizeChecks up t ++ (treeChecks up ++ (rulesVerdict up t ∷ batchChecks up batch)))
+  pub add : (up batch : List ℕ) (t : Tables) → FirstOf (addVerdict up batch t) (sizeChecks up t ++ (treeChecks up ++ (rulesVerdict up t ∷ batchChecks (length up) batch)))
   pub report : (up : List ℕ) (t : Tables) (o : Bytes) → FirstOf (reportVerdict up t o) (sizeChecks up t ++ (outputChecks up o ++ (treeChecks up ++ (rulesVerdict up t ∷ []))))
 
 -- on a refusal every lent slice is untouched

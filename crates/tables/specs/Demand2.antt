@@ -15,7 +15,7 @@ use Rattle.tables.specs.Answer.{Answer}
 use Rattle.tables.specs.Tree.{hub}
 use Rattle.tables.specs.Tables.{Tables, lengthsVerdict}
 use Rattle.tables.specs.Links.{Stands, tablesWith, SiteOf}
-use Rattle.tables.specs.History.{History, Lived, links, tables}
+use Rattle.tables.specs.History.{History, Lived, links}
 use Rattle.tables.specs.Rules.{tablesVerdict}
 use Rattle.tables.specs.Report.{Bytes, machineBytes}
 use Rattle.tables.specs.Outcome.{Outcome, reportOf}
@@ -30,12 +30,12 @@ pub record Reported (up : List ℕ) (links : Cables) (r : Outcome Answer Bytes) 
   pub uplinks : (v : ℕ) → v < length up → (at (r .lent .links) v ≡ 1) ↔ ChokeUplink up links v
   pub link-byte : (v : ℕ) → v < length up → at (r .lent .links) v ≤ 1
 
--- its value is the number of machines that it names: there is a list of them, each once, of that length
-pub record Counted (r : Outcome Answer Bytes) : Type 0 where
+-- the value is the number of machines that these bytes name: there is a list of them, each once, of that length
+pub record Counted (bytes : List ℕ) (value : ℕ) : Type 0 where
   pub list : List ℕ
   pub once : Once list
-  pub those : (w : ℕ) → (w ∈ list) ↔ (at (r .lent .machines) w ≢ 0)
-  pub value : length list ≡ r .answer .value
+  pub those : (w : ℕ) → (w ∈ list) ↔ (at bytes w ≢ 0)
+  pub size : length list ≡ value
 
 -- cross links are never chokes: taking one out leaves its ends joined
 abbrev pub CrossSpare : List ℕ → Cables → Type 0
@@ -43,20 +43,18 @@ CrossSpare up links = (xs ys : Cables) (a b : ℕ) → links ≡ xs ++ ((a, b) �
 
 -- of the site with these links and these tables: every report names the chokes and counts the machines that it names, and cross links are spare
 pub record ChokesNamed (up : List ℕ) (links : Cables) (t : Tables) : Type 0 where
-  pub reports : (o : Bytes) → length (o .machines) ≡ length up → length (o .links) ≡ length up → Reported up links (reportOf up t o) × Counted (reportOf up t o)
+  pub reports : (o : Bytes) → length (o .machines) ≡ length up → length (o .links) ≡ length up → (let r = reportOf up t o in Reported up links r × Counted (r .lent .machines) (r .answer .value))
   pub cross-links : CrossSpare up links
 
 -- r can be relied on: t are the tables of some links that stand, and r names exactly the chokes of the site with just these links, whichever they are
 pub record Relied (up : List ℕ) (t : Tables) (r : Outcome Answer Bytes) : Type 0 where
   pub site : SiteOf up t
   pub reported : (s : SiteOf up t) → Reported up (s .links) r
-  pub counted : Counted r
+  pub counted : Counted (r .lent .machines) (r .answer .value)
 
 pub record Demand2 : Type 0 where
-  -- after the calls of any run of batches: Start, and an Add for each
+  -- after any run of batches: Start, and an Add for each
   pub after-calls : (up : List ℕ) (h : History) (t : Tables) → Lived up h → lengthsVerdict up t ≡ Sound → ChokesNamed up (links h) (ran up h t)
-  -- after any run of batches
-  pub after-batches : (up : List ℕ) (h : History) → Lived up h → ChokesNamed up (links h) (tables up h)
   -- with any links that stand, however they came
   pub with-links : (up : List ℕ) (l : Cables) → Stands up l → ChokesNamed up l (tablesWith up l)
   -- with any tables at all, where the answer is 0

@@ -1,12 +1,12 @@
 -- A site as it stands: a tree with its cross links, and the tables that these leave.
 use mathlib.Core.Path.{_≡_}
-use mathlib.Core.List.{List, _∷_, _++_}
-use mathlib.Core.Logic.{_≢_, _⊎_}
-use Prim.Native.Nat.{ℕ, _<_, _≤_}
+use mathlib.Core.List.{List}
+use mathlib.Core.Logic.{_≢_}
+use Prim.Native.Nat.{ℕ, _<_}
 use lib.ListN.{length}
 use Rattle.plain.specs.Member.{_∈_}
 use Rattle.graph.specs.Cable.{Cables}
-use Rattle.tables.specs.Verdict.{Fault, Sound}
+use Rattle.tables.specs.Verdict.{Sound}
 use Rattle.tables.specs.Tree.{aloneVerdict}
 use Rattle.tables.specs.Tables.{Tables, fresh}
 use Rattle.tables.specs.Batch.{endsVerdict, after}
@@ -19,21 +19,6 @@ pub record Good (n : ℕ) (p : ℕ × ℕ) : Type 0 where
 
 abbrev pub AllGood : ℕ → Cables → Type 0
 AllGood n links = (p : ℕ × ℕ) → p ∈ links → Good n p
-
--- what is wrong with a link: an end is no machine; or, where both are, it joins a machine to itself
-pub data Bad (n : ℕ) (p : ℕ × ℕ) : Fault → Type 0 where
-  end : (n ≤ p .0) ⊎ (n ≤ p .1) → Bad n p Fault.End
-  loop : p .0 < n → p .1 < n → p .0 ≡ p .1 → Bad n p Fault.Loop
-
--- the first link that is not good is the one of index i, and this is what is wrong with it
-pub record FirstBad (n : ℕ) (links : Cables) (why : Fault) (i : ℕ) : Type 0 where
-  pub before : Cables
-  pub link : ℕ × ℕ
-  pub behind : Cables
-  pub whole : links ≡ before ++ (link ∷ behind)
-  pub index : length before ≡ i
-  pub good : AllGood n before
-  pub bad : Bad n link why
 
 -- a tree that is not refused, and links none of which is
 pub record Stands (up : List ℕ) (links : Cables) : Type 0 where
