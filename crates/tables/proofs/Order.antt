@@ -1,6 +1,6 @@
 -- Checks run in the order of the codes: the numbers that each check refuses with lie behind those of the checks before it, so the first that
 -- refuses has the least number.
-use mathlib.Core.Path.{_≡_, refl, sym, _∙_, subst}
+use mathlib.Core.Path.{_≡_, refl, sym, ap, _∙_, subst}
 use mathlib.Core.Bool.{Bool, true, false, _&&_}
 use mathlib.Core.List.{List, [], _∷_, _++_}
 use mathlib.Core.Logic.{⊎-elim}
@@ -10,7 +10,7 @@ use lib.ListN.{length}
 use lib.Dec.{leb, ltb, eqb}
 use Rattle.plain.specs.Member.{_∈_}
 use Rattle.plain.specs.Table.{at}
-use Rattle.graph.proofs.Members.{here, there, cases, empty}
+use Rattle.graph.proofs.Members.{cases, empty}
 use Rattle.tables.specs.Verdict.{Fault, numberOf, Verdict, Sound, Refused, checks, unless, refuseLeast}
 use Rattle.tables.specs.Tree.{mostMachines, hub, depthOf, sizeVerdict, treeVerdict, aloneVerdict}
 use Rattle.tables.specs.Tables.{Tables, sizesVerdict}
@@ -18,7 +18,7 @@ use Rattle.tables.specs.Batch.{mostLinks, pairs, numbersVerdict, batchVe
 use Rattle.tables.specs.Rules.{breaks, rulesVerdict, tablesVerdict}
 use Rattle.tables.specs.Report.{Bytes}
 use Rattle.tables.specs.Outcome.{startVerdict, addVerdict, outputsVerdict, reportVerdict}
-use Rattle.tables.specs.Demand1.{LinksExact, FirstOf, sizeChecks, outputChecks, treeChecks, batchChecks, InOrder, FirstBad}
+use Rattle.tables.specs.Demand1.{LinksExact, Reached, FirstOf, sizeChecks, outputChecks, treeChecks, batchChecks, InOrder, FirstBad}
 use Rattle.tables.proofs.Verdicts.{not-both, All, all-sound, sound-all, refuse-view}
 use Rattle.tables.proofs.Standing.{ends-good, good-ends, first-bad}
 use Rattle.tables.proofs.Codes.{ends-number}
@@ -43,11 +43,18 @@ first-sound (v ∷ vs) e u m =
     let k = all-sound (v ∷ vs) e in
     ⊎-elim (λ (q : u ≡ v). q ∙ k .0) (first-sound vs (sound-all vs (k .1)) u) (cases m)
 
-first-one : (vs : List Verdict) (why : Fault) (place : ℕ) → checks vs ≡ Refused why place → checks vs ∈ vs
+first-reached : (vs : List Verdict) (why : Fault) (place : ℕ) → checks vs ≡ Refused why place → Reached (checks vs) vs
 unfolding checks
-first-one [] why place e = not-both e refl
-first-one (Sound ∷ vs) why place e = there (first-one vs why place e)
-first-one (Refused c p ∷ vs) why place e = here refl
+first-reached [] why place e = not-both e refl
+first-reached (Sound ∷ vs) why place e =
+    let k = first-reached vs why place e in
+    record {
+      before = Sound ∷ k .before;
+      behind = k .behind;
+      whole = ap (λ l. Sound ∷ l) (k .whole);
+      passed = λ u m. ⊎-elim (λ (q : u ≡ Sound). q) (k .passed u) (cases m);
+    }
+first-reached (Refused c p ∷ vs) why place e = record { before = []; behind = vs; whole = refl; passed = λ u m. absurd (empty m) }
 
 first-least : (lo : ℕ) (vs : List Verdict) → Rising lo vs → (why : Fault) (place : ℕ) → checks vs ≡ Refused why place
     → (why′ : Fault) (place′ : ℕ) → Refused why′ place′ ∈ vs → numberOf why ≤ numberOf why′
@@ -63,7 +70,7 @@ first-least lo (Refused c p ∷ vs) (hi, i, b, r) why place e why′ place′ m 
     (cases m)
 
 first : {v : Verdict} (lo : ℕ) (vs : List Verdict) → v ≡ checks vs → Rising lo vs → FirstOf v vs
-first lo vs e r = rw e (record { sound = first-sound vs; one = first-one vs; least = first-least lo vs r })
+first lo vs e r = rw e (record { sound = first-sound vs; first = first-reached vs; least = first-least lo vs r })
 
 -- checks within checks are one run of checks
 flat : (us vs : List Verdict) → checks (checks us ∷ vs) ≡ checks (us ++ vs)

@@ -70,10 +70,17 @@ pub record LinksExact : Type 0 where
   pub sound : (n : ℕ) (links : Cables) → (endsVerdict n 0 links ≡ Sound) ↔ AllGood n links
   pub place : (n : ℕ) (links : Cables) (why : Fault) (i : ℕ) → endsVerdict n 0 links ≡ Refused why i → FirstBad n links why i
 
--- the verdict is that of one of these checks, and no other of them refuses with a lesser number
+-- v is one of these checks, and all before it pass
+pub record Reached (v : Verdict) (vs : List Verdict) : Type 0 where
+  pub before : List Verdict
+  pub behind : List Verdict
+  pub whole : vs ≡ before ++ (v ∷ behind)
+  pub passed : (u : Verdict) → u ∈ before → u ≡ Sound
+
+-- the verdict is that of the first of these checks that refuses, and no other of them refuses with a lesser number
 pub record FirstOf (v : Verdict) (vs : List Verdict) : Type 0 where
   pub sound : v ≡ Sound → (u : Verdict) → u ∈ vs → u ≡ Sound
-  pub one : (why : Fault) (place : ℕ) → v ≡ Refused why place → v ∈ vs
+  pub first : (why : Fault) (place : ℕ) → v ≡ Refused why place → Reached v vs
   pub least : (why : Fault) (place : ℕ) → v ≡ Refused why place → (why′ : Fault) (place′ : ℕ) → Refused why′ place′ ∈ vs → numberOf why ≤ numberOf why′
 
 -- the checks of one kind, each by itself: said once more, so that the order in which a call runs them is held to their numbers
