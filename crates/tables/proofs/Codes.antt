@@ -32,7 +32,7 @@ numbered Fault.Long e = omega arith
 
 pub codes : Codes
 unfolding faults
-codes = record { in-order = refl; not-done = numbered }
+codes = record { zero = λ value. refl; in-order = refl; not-done = numbered }
 
 -- a bad link is refused with 8 or 9
 pub bad-number : {n : ℕ} {p : ℕ × ℕ} {why : Fault} → Bad n p why → (8 ≤ numberOf why) × (numberOf why ≤ 9)

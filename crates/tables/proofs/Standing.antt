@@ -26,6 +26,13 @@ pub alone-sound : (up : List ℕ) → sizeVerdict (length up) ≡ Sound → tree
 unfolding aloneVerdict
 alone-sound up n t = sound-all _ (n, (t, tt))
 
+pub good-ends : (n i : ℕ) (l : Cables) → AllGood n l → endsVerdict n i l ≡ Sound
+unfolding endsVerdict
+good-ends n i [] g = refl
+good-ends n i (p ∷ l) g =
+    let k = g p (here refl) in
+    rw (lt-leb n (p .0) (k .one), lt-leb n (p .1) (k .two), ne-eqb (p .0) (p .1) (k .apart)) (good-ends n (suc i) l (λ q m. g q (there m)))
+
 pub ends-good : (n i : ℕ) (l : Cables) → endsVerdict n i l ≡ Sound → AllGood n l
 unfolding endsVerdict
 ends-good n i [] e p m = absurd (empty m)
@@ -37,13 +44,6 @@ ends-good n i (q ∷ l) e p m =
     let o₂ : ¬ (n ≤ q .1) = λ z. o (inr z) in
     let k : Good n q = record { one = omega arith; two = omega arith; apart = eqb-false (q .0) (q .1) b } in
     ⊎-elim (λ z. rw z k) (ends-good n (suc i) l g p) (cases m)
-
-pub good-ends : (n i : ℕ) (l : Cables) → AllGood n l → endsVerdict n i l ≡ Sound
-unfolding endsVerdict
-good-ends n i [] g = refl
-good-ends n i (p ∷ l) g =
-    let k = g p (here refl) in
-    rw (lt-leb n (p .0) (k .one), lt-leb n (p .1) (k .two), ne-eqb (p .0) (p .1) (k .apart)) (good-ends n (suc i) l (λ q m. g q (there m)))
 
 module _ {n : ℕ} {q : ℕ × ℕ} {l : Cables} {why : Fault} where
   bad-here : Bad n q why → FirstBad n (q ∷ l) why 0

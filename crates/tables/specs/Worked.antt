@@ -6,7 +6,7 @@ use Prim.Native.Char.{code as byteOf}
 use Prim.Native.String.{String, len, charAt}
 use lib.ListN.{length, replicate}
 use Rattle.plain.specs.Table.{tabulate}
-use Rattle.tables.specs.Answer.{Answer, done}
+use Rattle.tables.specs.Answer.{Answer}
 use Rattle.tables.specs.Tables.{Tables, tablesOf}
 use Rattle.tables.specs.Report.{Bytes, bytesOf}
 use Rattle.tables.specs.Outcome.{Outcome, outcome, startOf, addOf, reportOf}
@@ -51,6 +51,10 @@ add name r = record { name = name; said = ofTables (addOf (r .up) (r .batch) (r 
 
 unfoldable pub report : String → record { up : List ℕ; tables : Tables; outputs : Bytes; shown : Bytes → Outcome Answer Bytes } → Row
 report name r = record { name = name; said = ofBytes (reportOf (r .up) (r .tables) (r .outputs)); byHand = ofBytes (r .shown (r .outputs)) }
+
+-- code 0 and a value; written out, since the definitions are held to it
+abbrev done : ℕ → Answer
+done value = record { code = 0; value = value }
 
 -- a code and a value, and every lent slice as it came
 abbrev refuses : {A : Type 0} → ℕ → ℕ → A → Outcome Answer A

@@ -1,5 +1,6 @@
-//! Cases for code 6 and for what one link does: every table of small numbers on every small tree. Which of them histories
-//! leave is searched for, and the rules have to hold of these and of no others.
+//! Cases for code 6 and for what one link does: every table of small numbers on every small tree, with the depths of the tree;
+//! wrong depths, and on four machines marks of 3 and Add, around the tables that histories leave. Which tables those are is
+//! searched for, and the rules have to hold of these and of no others.
 
 use crate::calls::Take;
 use crate::lent::Lent;
