@@ -6,6 +6,6 @@ pub mod Pigeon
 pub mod Decide
 pub mod Fill
 pub mod Loops
-pub mod Mapping
+pub mod Putting
 pub mod Total
 pub mod Laid

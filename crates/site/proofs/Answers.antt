@@ -18,11 +18,12 @@ use Rattle.tables.proofs.Verdicts.{all-sound}
 use Rattle.tables.proofs.Lengths.{Lengths, lengths}
 use Rattle.tables.proofs.Standing.{standing}
 use Rattle.tables.proofs.Sound.{sound-tree}
-use Rattle.tables.proofs.Links as links-told
+use Rattle.tables.proofs.Links.{site-told}
 use Rattle.tables.proofs.Rise.{rise-is}
 use Rattle.checks.specs.Started.{started}
+use Rattle.lanes.proofs.Preparing.{told-named}
 use Rattle.checks.proofs.Checking.{told, start-told, add-passed, report-passed}
-use Rattle.site.specs.RingStep.{Applicable, Applied}
+use Rattle.lanes.specs.Whole.{Applicable, Applied}
 use Rattle.site.specs.ReportFill.{ReportSized, ReportFilled}
 
 module _ {A : Type 0} (came : A) (value : ℕ) (left : A) {c v : Verdict} {r : Answer} where
@@ -60,18 +61,18 @@ module _ (up depth group mark : List ℕ) where
           rw (s .found e, g, m, z .group-size, z .mark-size) (accepted t (length up) (fresh up) e (s .verdict) a)
 
   module _ {c : Verdict} (e : c ≡ Sound) (batch : List ℕ) (q : c ≡ addVerdict up batch t) where
-    -- the depths are right, so the ring step may climb by them
+    -- the tables are those of links that stand: their depths are right, so a batch may climb by them, and their groups are named
     pub add-ready : Applicable up depth group mark batch
     add-ready =
         let (p, b) = add-passed up t batch (told e q) in
-        let k = standing (p .site .stands) in
-        let s = sound-tree up (k .tree) in
+        let k = site-told (p .site) in
         record {
           few = p .sizes .few;
-          tree = s;
-          depths = ap (λ u. u .depth) (sym (p .site .left)) ∙ links-told.told s (k .good) .depths;
+          tree = sound-tree up (standing (p .site .stands) .tree);
+          depths = k .depths;
           group-size = p .sizes .group-size;
           mark-size = p .sizes .mark-size;
+          named = told-named k;
           batch = b;
         }
 

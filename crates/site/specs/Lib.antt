@@ -1,2 +1,1 @@
-pub mod RingStep
 pub mod ReportFill

@@ -6,7 +6,6 @@ ghost use Rattle.tables.specs.Outcome.{outcome, startOf, addOf, reportOf};
 
 mod fill;
 mod report;
-mod ring;
 
 use tables::Answer;
 use tables::Verdict;
@@ -50,7 +49,7 @@ impl Site {
         let Verdict::Sound = check else {
             return checks::answer(check, 0);
         };
-        let rise = ring::apply(up, depth, group, mark, batch);
+        let rise = lanes::apply(up, depth, group, mark, batch);
         checks::answer(check, rise)
     }
 

@@ -27,7 +27,7 @@ Leaves T a b x y = (Under T x a × ¬ Under T y b) ⊎ (Under T x b × ¬ Under 
 abbrev pub On : List ℕ → ℕ → ℕ → ℕ → Type 0
 On up a b x = (Under (treeOf up) (meet up a b) x × (Under (treeOf up) x a ⊎ Under (treeOf up) x b)) × (x ≢ meet up a b)
 
-data Due (up : List ℕ) (a b x : ℕ) : ℕ → Type 0 where
+pub data Due (up : List ℕ) (a b x : ℕ) : ℕ → Type 0 where
   none : ¬ On up a b x → Due up a b x 0
   high : On up a b x → at up x ≡ meet up a b → Due up a b x 1
   deep : On up a b x → at up x ≢ meet up a b → Due up a b x 2
@@ -37,7 +37,7 @@ module _ {up : List ℕ} (s : SoundTree up) {a b : ℕ} (h : a < length up) (k :
   unfolding ring
   says-on x l = says-and (says-and (says-over s (meet up a b) x l) (says-or (says-over s x a h) (says-over s x b k))) (says-not (says-eq x (meet up a b)))
 
-  due-is : (x : ℕ) → x < length up → Due up a b x (due up a b x)
+  pub due-is : (x : ℕ) → x < length up → Due up a b x (due up a b x)
   unfolding due
   due-is x l =
       let t = says-on x l in

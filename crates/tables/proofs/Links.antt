@@ -11,12 +11,13 @@ use Rattle.graph.proofs.Members.{keep, here, there, cases, empty, parts, on-lef
 use Rattle.rings.specs.Network.{Network}
 use Rattle.tables.specs.Batch.{after}
 use Rattle.tables.specs.Link.{linked}
-use Rattle.tables.specs.Links.{AllGood, tablesWith}
+use Rattle.tables.specs.Links.{AllGood, tablesWith, SiteOf}
 use Rattle.tables.specs.Tables.{Tables, fresh}
 use Rattle.tables.specs.Tree.{depthOf}
 use Rattle.tables.specs.AsTree.{treeOf}
 use Rattle.tables.specs.Demand1.{SoundTree}
-use Rattle.tables.proofs.Sound.{rooted}
+use Rattle.tables.proofs.Sound.{rooted, sound-tree}
+use Rattle.tables.proofs.Standing.{standing}
 use Rattle.tables.proofs.Naming.{told-more}
 use Rattle.tables.proofs.Told.{Told, told-map, fresh-told}
 
@@ -52,3 +53,7 @@ pub told : {up : List ℕ} {l : Cables} → SoundTree up → AllGood (length up)
 told {up} {l} s g =
     let z : Told up (Linked []) (fresh up) = fresh-told up (Linked []) (λ a b. ⊎-elim empty empty) in
     rw append-nil at (after-told s l [] (rw append-nil g) z)
+
+-- The tables of a site tell of its links.
+pub site-told : {up : List ℕ} {t : Tables} (k : SiteOf up t) → Told up (Linked (k .links)) t
+site-told {up} k = let s = standing (k .stands) in rw (k .left) at (told (sound-tree up (s .tree)) (s .good))

@@ -27,7 +27,7 @@ unfolding after linked greatest
 after-marks up [] t x h = omega arith
 after-marks up (p ∷ l) t x h = omega (arith, after-marks up l (linked up (p .0) (p .1) t) x h, raised-at up (p .0) (p .1) (t .mark) x h)
 
-after-length : (up : List ℕ) (l : Cables) (t : Tables) → length (t .mark) ≡ length up → length (after up l t .mark) ≡ length up
+pub after-length : (up : List ℕ) (l : Cables) (t : Tables) → length (t .mark) ≡ length up → length (after up l t .mark) ≡ length up
 unfolding after linked
 after-length up [] t e = e
 after-length up (p ∷ l) t e = after-length up l (linked up (p .0) (p .1) t) (raised-length up (p .0) (p .1) (t .mark))

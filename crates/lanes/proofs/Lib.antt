@@ -1,0 +1,15 @@
+pub mod Reading
+pub mod Numbers
+pub mod Seeing
+pub mod Listing
+pub mod Walking
+pub mod Laying
+pub mod InLanes
+pub mod Hopping
+pub mod Linking
+pub mod Uniting
+pub mod Asking
+pub mod Sweeping
+pub mod Hanging
+pub mod Preparing
+pub mod Wholes

@@ -1,0 +1,61 @@
+-- The least depth that rings reach from under each machine, and the marks that it asks.
+use mathlib.Core.Path.{_≡_}
+use mathlib.Core.Bool.{cond}
+use mathlib.Core.List.{List}
+use Prim.Native.Nat.{ℕ, _+_, _-_, _<_, _≤_, max, min}
+use lib.ListN.{length, set}
+use lib.Dec.{leb, eqb}
+use Rattle.plain.specs.Table.{at, total}
+use Rattle.rings.specs.Tree.{Under}
+use Rattle.tables.specs.Tree.{depthOf}
+use Rattle.tables.specs.AsTree.{treeOf}
+use Rattle.lanes.specs.Seen.{none}
+use Rattle.lanes.specs.Depths.{Listed}
+use Rattle.lanes.specs.Laying.{Ground, Levels}
+
+-- the mark that a ring which reaches depth l asks of a machine at depth d below it
+unfoldable pub asked : ℕ → ℕ → ℕ
+asked l d = cond (leb d l) 0 (cond (eqb (d - l) 1) 1 2)
+
+-- the entry of v is z, where that is less
+abbrev pub lowered : List ℕ → ℕ → ℕ → List ℕ
+lowered low v z = set low v (min (at low v) z)
+
+-- the mark of v is k at least, and rose by so much
+pub record Lifted (mark mark′ : List ℕ) (v k rise : ℕ) : Type 0 where
+  pub marks : mark′ ≡ set mark v (max (at mark v) k)
+  pub is : rise ≡ max (at mark v) k - at mark v
+
+-- v and its up are machines, with a depth and a mark for each
+pub record Handable (up low mark : List ℕ) (v : ℕ) : Type 0 where
+  pub here : v < length up
+  pub above : at up v < length up
+  pub lows : length low ≡ length up
+  pub marks : length mark ≡ length up
+
+-- v, of depth k, is lifted to what its entry asks, and hands the entry up
+pub record Handed (up low low′ mark mark′ : List ℕ) (v k rise : ℕ) : Type 0 where
+  pub lows : low′ ≡ lowered low (at up v) (at low v)
+  pub lifted : Lifted mark mark′ v (asked (at low v) k) rise
+
+-- what a sweep over the lists takes: on no list nobody knows of a ring
+pub record Sweepable (up head next low mark : List ℕ) (count : ℕ) : Type 0 where
+  pub ground : Ground up head next
+  pub levels : Levels up next count
+  pub lows : length low ≡ length up
+  pub marks : length mark ≡ length up
+  pub unlisted : (v : ℕ) → v < length up → at next v ≡ none → depthOf up v ≤ at low v
+
+-- l is the least entry of a machine under v, of those on lists
+pub record LeastUnder (up next low : List ℕ) (v l : ℕ) : Type 0 where
+  pub from : ℕ
+  pub low-in : from < length up
+  pub under : Under (treeOf up) v from
+  pub is : l ≡ at low from
+  pub least : (u : ℕ) → u < length up → Listed next u → Under (treeOf up) v u → l ≤ at low u
+
+-- each machine is asked what the least entry under it asks
+pub record Swept (up next low mark mark′ : List ℕ) (rise : ℕ) : Type 0 where
+  pub size : length mark′ ≡ length up
+  pub marked : (v : ℕ) → v < length up → (l : ℕ) × LeastUnder up next low v l × (at mark′ v ≡ max (at mark v) (asked l (depthOf up v)))
+  pub sum : total mark′ ≡ total mark + rise

@@ -1,0 +1,103 @@
+// What a batch of links does, in time near the number of machines and links on every tree: only the lines of the ends are looked at, and the two
+// ends of a link meet by lanes, pieces of lines that are passed at one hop.
+ghost use Rattle.lanes.specs.Laying.{Walkable, LanesTo};
+ghost use Rattle.lanes.specs.Whole.{Applicable, Applied, Bare, Looked, Joinable, Joined, Prepared};
+
+mod groups;
+mod hang;
+mod lay;
+mod lists;
+mod marks;
+mod meet;
+mod seen;
+mod table;
+
+// Puts every machine on the lines of the ends on the list of its depth. Gives back how many lists there are.
+fn look(
+    up: &[u16],
+    depth: &[u16],
+    batch: &[u16],
+    low: &mut [u16],
+    head: &mut [u16],
+    next: &mut [u16],
+) -> usize
+    requires { ⌜ Bare (now up) (now depth) (now batch) (now low) (now head) (now next) ⌝ }
+    ensures { λ r. ⌜ Looked (now (up .entry)) (now (batch .entry)) (now (low .exit)) (now (head .exit)) (now (next .exit)) r ⌝ }
+{
+    let levels = seen::see_all(up, depth, low, batch);
+    lists::fill(depth, low, head, next);
+    levels
+}
+
+// Puts every machine on a list into a lane. Until the tops are written, their place tells how deep the machines under each are.
+fn lay_out(up: &[u16], head: &[u16], next: &[u16], levels: usize, kid: &mut [u16], top: &mut [u16])
+    requires { ⌜ Walkable (now up) (now head) (now next) (now top) (now kid) levels ⌝ }
+    ensures { λ _. ⌜ LanesTo (now (up .entry)) (now (next .entry)) (now (kid .exit)) (now (top .exit)) levels ⌝ }
+{
+    lay::kids(up, head, next, levels, top, kid);
+    lay::tops(up, head, next, levels, kid, top);
+}
+
+// Joins the groups as the links say, and leaves how high their rings reach from each end.
+fn join(
+    up: &[u16],
+    depth: &[u16],
+    top: &[u16],
+    kid: &[u16],
+    group: &mut [u16],
+    low: &mut [u16],
+    batch: &[u16],
+)
+    requires { ⌜ Joinable (now up) (now depth) (now top) (now kid) (now group) (now low) (now batch) ⌝ }
+    ensures { λ _. ⌜ Joined (now (up .entry)) (now (group .entry)) (now (batch .entry)) (now (group .exit)) (now (low .exit)) ⌝ }
+{
+    hang::hang_all(up, depth, top, kid, group, low, batch);
+    groups::flatten(group);
+}
+
+// The batch, over local tables.
+fn work(
+    up: &[u16],
+    depth: &[u16],
+    group: &mut [u16],
+    mark: &mut [u8],
+    batch: &[u16],
+    low: &mut [u16],
+    head: &mut [u16],
+    next: &mut [u16],
+    kid: &mut [u16],
+    top: &mut [u16],
+) -> usize
+    requires { ⌜ Prepared (now up) (now depth) (now group) (now mark) (now batch) (now low) (now head) (now next) (now kid) (now top) ⌝ }
+    ensures { λ r. ⌜ Applied (now (up .entry)) (now (depth .entry)) (now (group .entry)) (now (mark .entry)) (now (batch .entry)) (now (group .exit)) (now (mark .exit)) r ⌝ }
+{
+    let levels = look(up, depth, batch, low, head, next);
+    lay_out(up, head, next, levels, kid, top);
+    join(up, depth, top, kid, group, low, batch);
+    marks::settle(up, head, next, levels, low, mark)
+}
+
+// Applies a batch that was accepted. Gives back the total by which marks rose.
+pub fn apply(up: &[u16], depth: &[u16], group: &mut [u16], mark: &mut [u8], batch: &[u16]) -> usize
+    requires { ⌜ Applicable (now up) (now depth) (now group) (now mark) (now batch) ⌝ }
+    ensures { λ r. ⌜ Applied (now (up .entry)) (now (depth .entry)) (now (group .entry)) (now (mark .entry)) (now (batch .entry)) (now (group .exit)) (now (mark .exit)) r ⌝ }
+{
+    let n = up.len();
+    let mut low: [u16; 4096] = [65535; 4096];
+    let mut head: [u16; 4096] = [0; 4096];
+    let mut next: [u16; 4096] = [65535; 4096];
+    let mut kid: [u16; 4096] = [0; 4096];
+    let mut top: [u16; 4096] = [0; 4096];
+    work(
+        up,
+        depth,
+        group,
+        mark,
+        batch,
+        &mut low[..n],
+        &mut head[..n],
+        &mut next[..n],
+        &mut kid[..n],
+        &mut top[..n],
+    )
+}

@@ -1,0 +1,44 @@
+// The machines on the lines of a batch's ends: what the batch can change is among them.
+ghost use mathlib.Core.Path.{_≡_};
+ghost use Prim.Native.Nat.{max};
+ghost use lib.ListN.{length};
+ghost use Rattle.lanes.specs.Seen.{Seeable, SeenFrom, Lookable, SeenTo};
+use crate::table::at;
+
+// The entry of a machine that is not seen.
+pub const NONE: usize = 65535;
+
+// From v up to the first machine that is seen. A machine that is seen has its depth as its entry.
+fn see(up: &[u16], depth: &[u16], low: &mut [u16], v: usize)
+    requires { ⌜ Seeable (now up) (now depth) (now low) v ⌝ }
+    ensures { λ _. ⌜ SeenFrom (now (up .entry)) (now (low .entry)) (now (low .exit)) v ⌝ }
+{
+    let mut x = v;
+    while at(low, x) == NONE {
+        low[x] = depth[x];
+        x = at(up, x);
+    }
+}
+
+// The greater of two numbers of levels.
+fn deeper(a: usize, b: usize) -> usize
+    ensures { λ r. ⌜ r ≡ max a b ⌝ }
+{
+    if a < b { b } else { a }
+}
+
+// From every end of a batch that was accepted. Gives back how many levels the machines seen have.
+pub fn see_all(up: &[u16], depth: &[u16], low: &mut [u16], batch: &[u16]) -> usize
+    requires { ⌜ Lookable (now up) (now depth) (now low) (now batch) ⌝ }
+    ensures { λ r. ⌜ SeenTo (now (up .entry)) (now (batch .entry)) (now (low .exit)) r (length (now (batch .entry))) ⌝ }
+{
+    let mut levels: usize = 0;
+    let mut i = 0;
+    while i < batch.len() {
+        let v = at(batch, i);
+        see(up, depth, low, v);
+        levels = deeper(levels, at(depth, v) + 1);
+        i += 1;
+    }
+    levels
+}
