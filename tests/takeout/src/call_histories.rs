@@ -2,52 +2,48 @@
 
 use crate::calls::Take;
 use crate::chance::Chance;
-use crate::file::{Link, MACHINE_LIMIT};
+use crate::cross_links::{links, Draw, DRAWS, MIXED};
+use crate::file::{Link, BATCH_LIMIT, MACHINE_LIMIT};
+use crate::large_sites;
 use crate::lent::Lent;
 use crate::reading::{Document01, Reading};
 use crate::search::chokes;
-use crate::sites::{link, tree, ANY, NEAR, PATH, SHAPES, STAR};
+use crate::shapes::{self, tree, RANDOM, SHUFFLED};
 use crate::text::{Case, Letter};
 
-/// Sites of 5 to 60 machines.
+/// Sites of 5 to 60 machines with damage to the tables that are left, and of 30 to 200 without.
 pub fn all(take: Take) {
     let mut chance = Chance::seeded(12);
     for _ in 0..1_500 {
         let n = chance.between(5, 60);
         around(n, &mut chance, take);
     }
+    for _ in 0..3_000 {
+        let n = chance.between(30, 200);
+        take(History::by_chance(n, &mut chance).case);
+    }
 }
 
-/// Sites of hundreds of machines, and a few of as many as a site has.
+/// Sites of hundreds of machines, of thousands in every shape, and one of as many machines and links as the calls take.
 pub fn large(take: Take) {
     let mut chance = Chance::seeded(13);
     for _ in 0..60 {
         let n = chance.between(100, 700);
         around(n, &mut chance, take);
     }
-    for (shape, links) in [(PATH, 3), (STAR, 1_024), (ANY, 300), (NEAR, 20)] {
-        let up = tree(shape, MACHINE_LIMIT, &mut chance);
-        let batch = numbers(
-            &(0..links)
-                .map(|_| link(&up, &mut chance))
-                .collect::<Vec<_>>(),
-        );
-        let letters = vec![
-            Letter::Start,
-            Letter::Add(batch.clone()),
-            Letter::Report,
-            Letter::Add(batch),
-            Letter::Tables,
-        ];
-        let lent = Lent::of_tree(&up);
-        take(Case { lent, letters });
+    for site in large_sites::of_every_shape(&mut chance) {
+        let batches = site.batches.iter().map(|links| numbers(links)).collect();
+        take(History::of(&site.up, batches, &mut chance).case);
     }
+    // The second time the batch changes nothing.
+    let up = tree(RANDOM, SHUFFLED, MACHINE_LIMIT, &mut chance);
+    let batch = numbers(&links(MIXED, BATCH_LIMIT, &up, &mut chance));
+    take(History::of(&up, vec![batch.clone(), batch], &mut chance).case);
 }
 
 /// A history, and what it left: with a number changed here and there, and with slices of other lengths.
 fn around(n: usize, chance: &mut Chance, take: Take) {
-    let up = tree(chance.pick(&SHAPES), n, chance);
-    let history = History::by_chance(&up, chance);
+    let history = History::by_chance(n, chance);
     take(history.case);
     for _ in 0..3 {
         take(after(damaged(&history.left, chance), chance));
@@ -62,7 +58,18 @@ struct History {
 }
 
 impl History {
-    fn by_chance(up: &[usize], chance: &mut Chance) -> History {
+    /// Up to eight batches on a tree of n machines.
+    fn by_chance(n: usize, chance: &mut Chance) -> History {
+        let up = shapes::by_chance(n, chance);
+        let draw = chance.pick(&DRAWS);
+        let batches = (0..chance.between(1, 8))
+            .map(|_| batch(&up, draw, chance))
+            .collect();
+        History::of(&up, batches, chance)
+    }
+
+    /// These batches one after another, with the tables after each and now and then a report.
+    fn of(up: &[usize], batches: Vec<Vec<usize>>, chance: &mut Chance) -> History {
         let mut case = Case {
             lent: Lent::of_tree(up),
             letters: vec![Letter::Start],
@@ -70,17 +77,13 @@ impl History {
         let mut left = case.lent.clone();
         let _ = Document01.start(&mut left);
         let mut links: Vec<Link> = Vec::new();
-        for _ in 0..chance.between(1, 8) {
-            let batch = batch(up, chance);
+        for batch in batches {
             if Document01.add(&mut left, &batch).is_ok() {
                 links.extend(batch.chunks_exact(2).map(|ends| (ends[0], ends[1])));
             }
-            case.letters.push(Letter::Add(batch));
-            if chance.once_in(2) {
-                case.letters.push(Letter::Report);
-            }
+            case.letters.extend([Letter::Add(batch), Letter::Tables]);
             if chance.once_in(3) {
-                case.letters.push(Letter::Tables);
+                case.letters.push(Letter::Report);
             }
         }
         case.letters.extend([Letter::Report, Letter::Tables]);
@@ -95,13 +98,11 @@ impl History {
 }
 
 /// A few links, and once in three times something that may get the batch refused.
-fn batch(up: &[usize], chance: &mut Chance) -> Vec<usize> {
+fn batch(up: &[usize], draw: Draw, chance: &mut Chance) -> Vec<usize> {
     let n = up.len();
     let most = chance.pick(&[1, 3, 2 + n / 4]);
-    let links: Vec<Link> = (0..chance.below(most + 1))
-        .map(|_| link(up, chance))
-        .collect();
-    let mut batch = numbers(&links);
+    let count = chance.below(most + 1);
+    let mut batch = numbers(&links(draw, count, up, chance));
     if chance.once_in(3) {
         let end = chance.pick(&[0, n - 1, n, n + 1, 65_535]);
         match (chance.below(3), batch.len()) {
@@ -124,7 +125,7 @@ fn numbers(links: &[Link]) -> Vec<usize> {
 /// A batch, a report and every slice, on tables as they come.
 fn after(lent: Lent, chance: &mut Chance) -> Case {
     let letters = vec![
-        Letter::Add(batch(&lent.up, chance)),
+        Letter::Add(batch(&lent.up, MIXED, chance)),
         Letter::Report,
         Letter::Tables,
     ];

@@ -4,7 +4,8 @@ use crate::calls::Take;
 use crate::chance::Chance;
 use crate::file::{BATCH_LIMIT, MACHINE_LIMIT};
 use crate::lent::Lent;
-use crate::sites::{path, tables, tree, trees, SHAPES};
+use crate::shapes::{self, path};
+use crate::sites::{tables, trees};
 use crate::text::{Case, Letter};
 
 pub fn all(take: Take) {
@@ -53,7 +54,7 @@ fn hurt_trees(take: Take) {
     let mut chance = Chance::seeded(11);
     for _ in 0..600 {
         let n = chance.between(5, 60);
-        let mut up = tree(chance.pick(&SHAPES), n, &mut chance);
+        let mut up = shapes::by_chance(n, &mut chance);
         for _ in 0..chance.between(1, 3) {
             let machine = chance.below(n);
             up[machine] = match chance.below(4) {

@@ -43,6 +43,9 @@ pub const ALL: [Class<Cases>; 5] = [
 /// A bracket and the end of its line count as bytes outside brackets, of which `trial` takes 65,536.
 const CASES_A_RUN: usize = 30_000;
 
+/// Large sites make shorter runs: one ends with the case that brings it to so many machines.
+const MACHINES_A_RUN: usize = 120_000;
+
 /// How many runs of the program go on at a time.
 const RUNS_AT_A_TIME: usize = 2;
 
@@ -58,6 +61,7 @@ pub fn calls(classes: &[Class<Cases>], cmd: &str, args: &[&str]) {
                 .collect(),
             things: class.things,
             next: Vec::new(),
+            machines: 0,
             runs: VecDeque::new(),
             cases: 0,
             codes: Codes::default(),
@@ -79,8 +83,9 @@ pub fn calls(classes: &[Class<Cases>], cmd: &str, args: &[&str]) {
 struct Program {
     words: Vec<String>,
     things: &'static str,
-    /// The cases of the next run.
+    /// The cases of the next run, and how many machines they have.
     next: Vec<Case>,
+    machines: usize,
     /// The runs that go on, the earliest first, each with the codes of its answers.
     runs: VecDeque<JoinHandle<Result<Codes, Failure>>>,
     cases: usize,
@@ -89,8 +94,9 @@ struct Program {
 
 impl Program {
     fn take(&mut self, case: Case) {
+        self.machines += case.lent.up.len();
         self.next.push(case);
-        if self.next.len() == CASES_A_RUN {
+        if self.next.len() == CASES_A_RUN || self.machines >= MACHINES_A_RUN {
             self.run();
         }
     }
@@ -99,6 +105,7 @@ impl Program {
         self.wait(RUNS_AT_A_TIME - 1);
         let (words, things, before) = (self.words.clone(), self.things, self.cases);
         let cases = std::mem::take(&mut self.next);
+        self.machines = 0;
         self.cases += cases.len();
         let run = thread::spawn(move || compare(&words, &cases, things, before));
         self.runs.push_back(run);

@@ -10,7 +10,7 @@ use crate::draft::Visit;
 use crate::file::{self, SiteFile};
 use crate::search::chokes;
 use crate::verdict::{judge, Failure, Verdict};
-use crate::{damaged_links, damaged_records, damaged_trees, sites};
+use crate::{damaged_links, damaged_records, damaged_trees, large_sites, sites};
 
 /// Makes files and hands each on.
 pub type Files = fn(Visit);
@@ -44,7 +44,7 @@ fn damaged(visit: Visit) {
 
 /// What may be slow to answer: the large sites, and the damaged files of thousands of machines.
 fn large(visit: Visit) {
-    sites::large(visit);
+    large_sites::all(visit);
     damaged_trees::large(visit);
     damaged_links::large(visit);
 }

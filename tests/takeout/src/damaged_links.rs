@@ -3,7 +3,8 @@
 use crate::chance::Chance;
 use crate::draft::{Draft, Visit};
 use crate::file::{Link, BATCH_LIMIT, FILE_LIMIT, MACHINE_LIMIT};
-use crate::sites::{by_chance, path, tables};
+use crate::shapes::path;
+use crate::sites::{by_chance, tables};
 
 pub fn all(visit: Visit) {
     link_ends(visit);

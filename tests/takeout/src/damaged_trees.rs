@@ -3,7 +3,8 @@
 use crate::chance::Chance;
 use crate::draft::{Draft, Visit};
 use crate::file::MACHINE_LIMIT;
-use crate::sites::{path, tables};
+use crate::shapes::path;
+use crate::sites::tables;
 
 pub fn all(visit: Visit) {
     up_tables(visit);

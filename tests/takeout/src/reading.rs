@@ -96,11 +96,7 @@ pub trait Reading {
     /// What the link (a, b) does to the tables.
     fn link(&self, lent: &mut Lent, a: usize, b: usize) {
         let (from_a, from_b) = (line(&lent.up, a), line(&lent.up, b));
-        let w = from_a
-            .iter()
-            .copied()
-            .find(|machine| from_b.contains(machine))
-            .expect("both lines end at the hub");
+        let w = self.meet(&from_a, &from_b);
         let mut below_w = Vec::new();
         for line in [from_a, from_b] {
             let arm: Vec<usize> = line.into_iter().take_while(|&x| x != w).collect();
@@ -110,6 +106,13 @@ pub trait Reading {
         if let [one, other] = below_w[..] {
             self.join(lent, one, other);
         }
+    }
+
+    /// Where two lines to the hub meet: seen from the hub, the last machine before they part.
+    fn meet(&self, from_a: &[usize], from_b: &[usize]) -> usize {
+        let from_the_hub = from_a.iter().rev().zip(from_b.iter().rev());
+        let shared = from_the_hub.take_while(|(x, y)| x == y).last();
+        *shared.expect("both lines end at the hub").0
     }
 
     /// The marks of one arm of a ring: its machines from the link's end up to the child of the meeting machine w.

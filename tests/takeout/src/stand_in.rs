@@ -4,20 +4,25 @@ use std::io::{self, BufReader, BufWriter, Read, Write};
 
 use crate::answer::answer;
 use crate::file::{self, Link, Refusal};
+use crate::lent::line;
 use crate::search::{chokes, Chokes};
 
 /// What a faulty program prints for a site file.
 type Faulty = fn(&[u8]) -> String;
 
-const FAULTY: [(&str, Faulty); 4] = [
+const FAULTY: [(&str, Faulty); 6] = [
     ("swap-reasons", |file| {
         answer(&file::read(file), reasons_swapped).lines
     }),
     ("doubled-uplink", |file| {
         answer(&file::read(file), uplinks_undoubled).lines
     }),
+    ("long-rings-open", |file| {
+        answer(&file::read(file), long_rings_open).lines
+    }),
     ("ten-for-twelve", ten_for_twelve),
     ("cross-link", cross_link_named),
+    ("later-links-lost", later_links_lost),
 ];
 
 pub fn names() -> Vec<&'static str> {
@@ -59,6 +64,20 @@ fn uplinks_undoubled(up: &[usize], links: &[Link]) -> Chokes {
     chokes(up, &others)
 }
 
+/// A link whose ring has over a hundred machines is passed over.
+fn long_rings_open(up: &[usize], links: &[Link]) -> Chokes {
+    let ring = |&(a, b): &Link| {
+        let (from_a, from_b) = (line(up, a), line(up, b));
+        let arm = |line: &[usize], other: &[usize]| {
+            line.iter().take_while(|x| !other.contains(x)).count()
+        };
+        arm(&from_a, &from_b) + 1 + arm(&from_b, &from_a)
+    };
+    let mut others = links.to_vec();
+    others.retain(|link| ring(link) <= 100);
+    chokes(up, &others)
+}
+
 /// A known kind out of place is answered as if the file ended there.
 fn ten_for_twelve(file: &[u8]) -> String {
     let mut site = file::read(file);
@@ -76,4 +95,12 @@ fn cross_link_named(file: &[u8]) -> String {
     let site = file::read(file);
     let named = site.links.last().map(|(a, b)| format!("L {a} {b}\n"));
     named.unwrap_or_default() + &answer(&site, chokes).lines
+}
+
+/// The links after the first report are passed over.
+fn later_links_lost(file: &[u8]) -> String {
+    let mut site = file::read(file);
+    let first = site.reports.first().copied().unwrap_or(0);
+    site.reports.fill(first);
+    answer(&site, chokes).lines
 }

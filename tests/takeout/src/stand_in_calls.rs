@@ -43,7 +43,7 @@ pub fn serve(reading: &dyn Reading) -> io::Result<()> {
 
 type Make = fn() -> Box<dyn Reading>;
 
-const OTHERS: [(&str, Make); 9] = [
+const OTHERS: [(&str, Make); 13] = [
     ("nine-before-eight", || Box::new(NineBeforeEight)),
     ("odd-length-taken", || Box::new(OddLengthTaken)),
     ("last-slice-named", || Box::new(LastSliceNamed)),
@@ -53,6 +53,10 @@ const OTHERS: [(&str, Make); 9] = [
     ("good-links-first", || Box::new(GoodLinksFirst)),
     ("carried-at-w", || Box::new(CarriedAtW)),
     ("stops-at-ringed", || Box::new(StopsAtRinged)),
+    ("stops-after-sixteen", || Box::new(StopsAfterSixteen)),
+    ("meets-too-high", || Box::new(MeetsTooHigh)),
+    ("members-left-behind", || Box::new(MembersLeftBehind)),
+    ("groups-forgotten", || Box::new(GroupsForgotten)),
 ];
 
 /// One rule behind code 6 is not looked at.
@@ -165,5 +169,53 @@ impl Reading for StopsAtRinged {
     fn raise(&self, lent: &mut Lent, arm: &[usize], w: usize) {
         let fresh = arm.iter().take_while(|&&x| lent.mark[x] == 0).count();
         Document01.raise(lent, &arm[..fresh], w);
+    }
+}
+
+/// The way up ends after sixteen machines.
+struct StopsAfterSixteen;
+
+impl Reading for StopsAfterSixteen {
+    fn raise(&self, lent: &mut Lent, arm: &[usize], w: usize) {
+        Document01.raise(lent, &arm[..arm.len().min(16)], w);
+    }
+}
+
+/// Where both arms of a ring have three machines or more, it closes one machine nearer the hub.
+struct MeetsTooHigh;
+
+impl Reading for MeetsTooHigh {
+    fn meet(&self, from_a: &[usize], from_b: &[usize]) -> usize {
+        let w = Document01.meet(from_a, from_b);
+        let arms = [from_a, from_b].map(|line| line.iter().take_while(|&&x| x != w).count());
+        let above = from_a.get(arms[0] + 1).unwrap_or(&w);
+        if arms.iter().all(|&arm| arm >= 3) {
+            *above
+        } else {
+            w
+        }
+    }
+}
+
+/// When two groups join, the machines that named them get the new name and the other members keep the old.
+struct MembersLeftBehind;
+
+impl Reading for MembersLeftBehind {
+    fn join(&self, lent: &mut Lent, one: usize, other: usize) {
+        let names = [lent.group[one], lent.group[other]];
+        for name in names {
+            lent.group[name] = self.name(&names);
+        }
+    }
+}
+
+/// Each batch begins with every machine alone.
+struct GroupsForgotten;
+
+impl Reading for GroupsForgotten {
+    fn check_batch(&self, lent: &mut Lent, batch: &[usize]) -> Result<(), Refusal> {
+        Document01.check_batch(lent, batch)?;
+        lent.group = (0..lent.up.len()).collect();
+        Ok(())
     }
 }
