@@ -62,17 +62,6 @@ few-up n depth group mark e q = let s : Sizes n depth group mark = sizes-passed 
 pub depth-fits : {c : Verdict} (n depth group mark : ℕ) → c ≡ Sound → c ≡ sizesVerdict n depth group mark → depth ≡ n
 depth-fits n depth group mark e q = let s : Sizes n depth group mark = sizes-passed e q in s .depth-size
 
--- and the tree: what the rules ask
-pub tree-passed : {up depth group mark : List ℕ} {c : Verdict} {top : ℕ} → c ≡ Sound → c ≡ treeVerdict up → Lengths up (tablesOf depth group mark) → top ≡ hub up
-    → Sized up depth group mark top
-tree-passed {up} e q l h = record {
-  depth-size = l .depth-size;
-  group-size = l .group-size;
-  mark-size = l .mark-size;
-  inside = sound-tree up (told e q) .inside;
-  top = h;
-}
-
 -- the checks of Start, and the depths that they leave
 module _ (up depth : List ℕ) (v : Verdict) where
   pub start-stops : {c : Verdict} {why : Fault} {place : ℕ} → c ≡ Refused why place → c ≡ v → outcome c depth ≡ started v up depth

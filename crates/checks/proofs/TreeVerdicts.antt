@@ -1,8 +1,8 @@
 -- The three parts of a tree's verdict. Two searches tell of the hubs: the first finds the hub, the second, behind it, the next one or none. Entries that
 -- are machines and one hub are what the reach check asks; and the verdict is that of the first part that refuses.
-use mathlib.Core.Path.{_≡_, refl, _∙_}
+use mathlib.Core.Path.{_≡_, refl, sym, _∙_}
 use mathlib.Core.Bool.{true, false, _&&_, and-false}
-use mathlib.Core.List.{List}
+use mathlib.Core.List.{List, [], _∷_}
 use mathlib.Core.Logic.{_≢_}
 use Prim.Native.Nat.{ℕ, _+_, _<_, _≤_}
 use native.Mathlib.Numerals.{add-one}
@@ -15,10 +15,10 @@ use Rattle.plain.specs.Table.{at}
 use Rattle.tables.specs.Verdict.{checks, refuseLeast}
 use Rattle.tables.specs.declared.Fault.{Fault}
 use Rattle.tables.specs.declared.Verdict.the-variants.{the-data as Verdict, Sound, Refused}
-use Rattle.tables.specs.Tree.{hub, entriesVerdict, hubsVerdict}
+use Rattle.tables.specs.Tree.{hub, Inside, hubsVerdict, reachVerdict, treeVerdict}
 use Rattle.tables.proofs.Verdicts.{none-refused, all-sound, unless-sound, not-both}
-use Rattle.checks.specs.TreeCheck.{hubFrom, DepthRoom, Climbable, Reached}
-use Rattle.checks.proofs.Checking.{told}
+use Rattle.checks.specs.TreeCheck.{hubFrom, upsVerdict, DepthRoom, Climbable, Reached}
+use Rattle.checks.proofs.Checking.{told, stops, goes-on, ends}
 use Rattle.checks.proofs.Searching.{Searched}
 
 -- the search for a hub not below from begins there
@@ -54,13 +54,34 @@ module _ (up : List ℕ) {h : ℕ} (e : h ≡ hub up) where
     unfolding checks refuseLeast
     one-hub l = rw (lt-ltb (hub up) (length up) (omega arith), ← behind, le-ltb r (length up) l) refl
 
-pub ready : {up known : List ℕ} {c d : Verdict} → c ≡ Sound → c ≡ entriesVerdict up → d ≡ Sound → d ≡ hubsVerdict up
-    → DepthRoom up known → Climbable up known
-ready {up} e q f p m = record {
-  room = m;
-  inside = λ v h. leb-false (length up) (at up v) (none-refused Fault.Entry (length up) (λ k. leb (length up) (at up k)) (told e q) v h);
-  hub-in = ltb-true (hub up) (length up) (unless-sound _ _ _ (all-sound _ (told f p) .0));
-}
+-- checks of checks are checks one after another
+nested : (a b c : Verdict) → checks (a ∷ b ∷ c ∷ []) ≡ checks (checks (a ∷ b ∷ []) ∷ c ∷ [])
+unfolding checks
+nested Sound Sound c = refl
+nested Sound (Refused why place) c = refl
+nested (Refused why place) b c = refl
+
+-- what the ups tell, which takes no climb
+module _ (up : List ℕ) {c : Verdict} (q : c ≡ upsVerdict up) where
+  pub ups-stop : {why : Fault} {place : ℕ} → c ≡ Refused why place → c ≡ treeVerdict up
+  unfolding treeVerdict upsVerdict
+  ups-stop e = stops q _ e ∙ sym (nested _ _ _)
+
+  module _ (e : c ≡ Sound) where
+    pub ups-inside : Inside up
+    unfolding upsVerdict
+    ups-inside v h = leb-false (length up) (at up v) (none-refused Fault.Entry (length up) (λ k. leb (length up) (at up k)) (all-sound _ (told e q) .0) v h)
+
+    pub ups-hub : hub up < length up
+    unfolding upsVerdict
+    ups-hub = ltb-true (hub up) (length up) (unless-sound _ _ _ (all-sound _ (all-sound _ (told e q) .1 .0) .0))
+
+    pub ups-go-on : {w : Verdict} → w ≡ reachVerdict up → w ≡ treeVerdict up
+    unfolding treeVerdict upsVerdict
+    ups-go-on p = goes-on q _ e (ends p) ∙ sym (nested _ _ _)
+
+    pub ready : {known : List ℕ} → DepthRoom up known → Climbable up known
+    ready m = record { room = m; inside = ups-inside; hub-in = ups-hub }
 
 -- a refusal leaves no depths, and what the last part leaves is what the whole check leaves
 pub refused : {v : Verdict} {up known : List ℕ} {r : Verdict} {why : Fault} {place : ℕ} → r ≡ Refused why place → r ≡ v → length known ≡ length up

@@ -2,18 +2,27 @@
 -- These are the contracts of private functions: the public calls do not cite them, so nothing here has to be believed.
 use mathlib.Core.Path.{_≡_}
 use mathlib.Core.Bool.{_&&_}
-use mathlib.Core.List.{List}
+use mathlib.Core.List.{List, [], _∷_}
 use Prim.Native.Nat.{ℕ, _<_, _≤_}
 use lib.ListN.{length}
 use lib.Dec.{leb, eqb}
 use Rattle.plain.specs.Search.{least}
 use Rattle.plain.specs.Table.{at, tabulate}
+use Rattle.tables.specs.Verdict.{checks}
 use Rattle.tables.specs.declared.Verdict.the-variants.{the-data as Verdict, Sound}
-use Rattle.tables.specs.Tree.{mostMachines, climb, hub, Inside, depthOf}
+use Rattle.tables.specs.Tree.{mostMachines, climb, hub, Inside, depthOf, entriesVerdict, hubsVerdict, treeVerdict}
 
 -- the least machine, not below from, that names itself; n, if there is none
 abbrev pub hubFrom : List ℕ → ℕ → ℕ
 hubFrom up from = least (length up) (λ v. leb from v && eqb (at up v) v)
+
+-- 3 and 4, which take no climb
+unfoldable pub upsVerdict : List ℕ → Verdict
+upsVerdict up = checks (entriesVerdict up ∷ hubsVerdict up ∷ [])
+
+-- a tree's verdict, before another one
+abbrev pub strayFirst : List ℕ → Verdict → Verdict
+strayFirst up v = checks (treeVerdict up ∷ v ∷ [])
 
 -- stands in the table for a depth that is not known: no machine is so deep
 abbrev pub unknown : ℕ

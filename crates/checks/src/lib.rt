@@ -11,7 +11,7 @@ ghost use Rattle.tables.specs.Rules.{tablesVerdict};
 ghost use Rattle.tables.specs.Report.{bytesOf};
 ghost use Rattle.tables.specs.Outcome.{outcome, startVerdict, addVerdict, reportVerdict};
 ghost use Rattle.checks.specs.Started.{started};
-ghost use Rattle.checks.specs.TreeCheck.{DepthRoom};
+ghost use Rattle.checks.specs.TreeCheck.{strayFirst, DepthRoom};
 
 mod answers;
 mod batches;
@@ -66,17 +66,34 @@ pub fn batch(n: usize, batch: &[u16]) -> Verdict
     batches::ends(n, batch)
 }
 
-// The tree and the rules behind code 6, over tables of the right lengths.
-fn tables(up: &[u16], depth: &[u16], group: &[u16], mark: &[u8]) -> Verdict
-    requires { ⌜ Lengths (now up) (tablesOf (now depth) (now group) (now mark)) ⌝ }
-    ensures { λ r. ⌜ r ≡ tablesVerdict (now (up .entry)) (tablesOf (now (depth .entry)) (now (group .entry)) (now (mark .entry))) ⌝ }
+// Where a rule is broken: a machine that never reaches the hub is told of first.
+fn stray_first(up: &[u16], broken: Verdict) -> Verdict
+    requires { ⌜ length (now up) ≤ mostMachines ⌝ }
+    ensures { λ r. ⌜ r ≡ strayFirst (now (up .entry)) broken ⌝ }
 {
     let grown = shape(up);
     let Verdict::Sound = grown else {
         return grown;
     };
+    broken
+}
+
+// The tree and the rules behind code 6, over tables of the right lengths. Depths by which every machine keeps its rule lead to the hub, so where no rule
+// is broken nothing is climbed.
+fn tables(up: &[u16], depth: &[u16], group: &[u16], mark: &[u8]) -> Verdict
+    requires { ⌜ Lengths (now up) (tablesOf (now depth) (now group) (now mark)) ⌝ }
+    ensures { λ r. ⌜ r ≡ tablesVerdict (now (up .entry)) (tablesOf (now (depth .entry)) (now (group .entry)) (now (mark .entry))) ⌝ }
+{
+    let named = trees::ups(up);
+    let Verdict::Sound = named else {
+        return named;
+    };
     let top = trees::hub(up);
-    rules::check(up, depth, group, mark, top)
+    let kept = rules::check(up, depth, group, mark, top);
+    let Verdict::Sound = kept else {
+        return stray_first(up, kept);
+    };
+    kept
 }
 
 // A tree whose depths go to `known` first, and to `depth` where all is well.

@@ -3,7 +3,7 @@ ghost use mathlib.Core.Path.{_≡_};
 ghost use Prim.Native.Nat.{_≤_};
 ghost use lib.ListN.{length};
 ghost use Rattle.tables.specs.Tree.{hub, entriesVerdict, hubsVerdict, reachVerdict, treeVerdict};
-ghost use Rattle.checks.specs.TreeCheck.{hubFrom, Blank, Climbing, Stopped, Laying, Laid, DepthRoom, Climbable, Reached};
+ghost use Rattle.checks.specs.TreeCheck.{hubFrom, upsVerdict, Blank, Climbing, Stopped, Laying, Laid, DepthRoom, Climbable, Reached};
 use tables::Fault;
 use tables::Verdict;
 
@@ -133,18 +133,25 @@ fn reach(up: &[u16], known: &mut [u16]) -> Verdict
     Verdict::Sound
 }
 
-// The three checks of a tree in their order. Where all is well, `known` has the depths.
-pub fn check(up: &[u16], known: &mut [u16]) -> Verdict
-    requires { ⌜ DepthRoom (now up) (now known) ⌝ }
-    ensures { λ r. ⌜ Reached (treeVerdict (now (up .entry))) (now (up .entry)) (now (known .exit)) r ⌝ }
+// Every entry names a machine, and there is one hub: what takes no climb.
+pub fn ups(up: &[u16]) -> Verdict
+    ensures { λ r. ⌜ r ≡ upsVerdict (now (up .entry)) ⌝ }
 {
     let within = entries(up);
     let Verdict::Sound = within else {
         return within;
     };
-    let single = hubs(up);
-    let Verdict::Sound = single else {
-        return single;
+    hubs(up)
+}
+
+// The three checks of a tree in their order. Where all is well, `known` has the depths.
+pub fn check(up: &[u16], known: &mut [u16]) -> Verdict
+    requires { ⌜ DepthRoom (now up) (now known) ⌝ }
+    ensures { λ r. ⌜ Reached (treeVerdict (now (up .entry))) (now (up .entry)) (now (known .exit)) r ⌝ }
+{
+    let named = ups(up);
+    let Verdict::Sound = named else {
+        return named;
     };
     reach(up, known)
 }
