@@ -2,12 +2,13 @@
 use mathlib.Core.Path.{_≡_, refl, sym, ap, _∙_}
 use mathlib.Core.List.{List}
 use mathlib.Core.Logic.{_≢_, ⊎-elim, dite}
-use Prim.Native.Nat.{ℕ, _+_, _*_, _-_, _<_, _≤_}
+use Prim.Native.Nat.{ℕ, _+_, _-_, _<_, _≤_}
 use native.Mathlib.Decide.{ℕ-discrete, decLt}
 use native.Mathlib.Omega.{arith}
 use lib.ListN.{length, set, length-set}
 use lib.Seq.{getD-set-same, getD-set-other}
-use Rattle.plain.specs.Table.{at}
+use Rattle.plain.specs.Table.{at, tabulate}
+use Rattle.plain.proofs.Tabulate.{length-tabulate, at-tabulate}
 use Rattle.graph.specs.Walk.{stay, step}
 use Rattle.rings.specs.Tree.{Uplink}
 use Rattle.rings.proofs.Under.{uplinked}
@@ -17,8 +18,8 @@ use Rattle.tables.specs.Demand1.{SoundTree}
 use Rattle.tables.proofs.Sound.{rooted}
 use Rattle.lanes.specs.Depths.{Listed, OnList, Past}
 use Rattle.lanes.specs.Lane.{InLane, highest, along, Laned}
-use Rattle.lanes.specs.Laying.{Ground, Levels, Beside, Walkable, TopFor, itself, as-kid, LanesTo, LayableAt}
-use Rattle.lanes.proofs.Walking.{on-head, none-past, here-in, here-depth, on-next, next-less, past-more, Descent, descent, walk-few, turn, here-up, above-up, step-on}
+use Rattle.lanes.specs.Laying.{Ground, Levels, Beside, Offerable, Walkable, TopFor, itself, as-kid, LanesTo, LayableAt}
+use Rattle.lanes.proofs.Walking.{on-head, none-past, here-in, here-depth, on-next, next-less, past-more}
 
 -- a top that is written at v is no matter to a machine that is no deeper
 in-lane-put : {up top kid : List ℕ} (s : SoundTree up) {u v : ℕ} (t : ℕ) → u ≢ v → depthOf up u ≤ depthOf up v → InLane up top kid u → InLane up (set top v t) kid u
@@ -112,37 +113,71 @@ pub laned : {up head next kid top : List ℕ} {count : ℕ} → Ground up head n
 laned g n l v h p z stay = l .lane v h p (n .level v h p)
 laned g n l v h p z (step {b = b} r u) = laned g n l b (rooted (g .tree) .low r) (g .upward r p) z u
 
--- the walk that leaves kids does no more than stay inside its tables
+-- the walks that leave kids do no more than stay inside their tables
 pub record Offering (up next deep kid : List ℕ) (k x : ℕ) : Type 0 where
-  pub walk : Descent up next k x
+  pub on : OnList (length up) (depthOf up) next k x
   pub deeps : length deep ≡ length up
   pub kids : length kid ≡ length up
 
-module _ {up head next deep₀ kid₀ : List ℕ} {count : ℕ} (r : Walkable up head next deep₀ kid₀ count) where
-  pub kids-start : Offering up next deep₀ kid₀ count 0
-  kids-start = record { walk = descent (r .ground) (r .levels); deeps = r .ones; kids = r .twos }
+module _ {up head next deep₀ kid₀ : List ℕ} {k : ℕ} (r : Offerable up head next deep₀ kid₀ k) where
+  pub offer-in : k < length head
+  offer-in = rw (r .ground .lists .heads) (r .below)
 
-  module _ {deep kid : List ℕ} {k x : ℕ} (i : Offering up next deep kid k x) where
-    pub kids-few : k + x ≤ 2 * 4096
-    kids-few = walk-few (r .ground) (i .walk)
+  pub offer-few : k < 4096
+  offer-few = omega (arith, r .below, r .ground .few)
 
-    pub kids-turn : {y : ℕ} → x ≡ 0 → 0 < k + x → y ≡ at head (k - 1) → Offering up next deep kid (k - 1) y
-    kids-turn z h e = record { walk = turn (r .ground) (i .walk) z h e; deeps = i .deeps; kids = i .kids }
+  pub offer-start : {x : ℕ} → x ≡ at head k → Offering up next deep₀ kid₀ k x
+  offer-start e = rw e (record { on = on-head (r .ground .lists) k; deeps = r .ones; kids = r .twos })
 
-    pub offer-ready : x ≢ 0 → Beside up deep kid (x - 1)
-    offer-ready o = record {
-      few = r .ground .few;
-      here = here-up (r .ground) (i .walk) o;
-      above = above-up (r .ground) (i .walk) o;
-      ones = i .deeps;
-      twos = i .kids;
-    }
+  module _ {deep kid : List ℕ} {x : ℕ} (i : Offering up next deep kid k x) where
+    module _ (g : 0 < x) where
+      offered : x - 1 < length up
+      offered = here-in (r .ground .lists) (i .on) g
 
-    pub kids-next : {deep′ kid′ : List ℕ} {y : ℕ} → x ≢ 0 → y ≡ at next (x - 1) → length deep′ ≡ length deep → length kid′ ≡ length kid → Offering up next deep′ kid′ k y
-    kids-next o e p q = record { walk = step-on (r .ground) (i .walk) o e; deeps = p ∙ i .deeps; kids = q ∙ i .kids }
+      pub offer-next-in : x - 1 < length next
+      offer-next-in = rw (r .ground .lists .nexts) offered
+
+      pub offer-ready : Beside up deep kid (x - 1)
+      offer-ready = record { few = r .ground .few; here = offered; above = r .ground .tree .inside (x - 1) offered; ones = i .deeps; twos = i .kids }
+
+      pub offer-less : {y : ℕ} → y ≡ at next (x - 1) → y < x
+      offer-less = next-less (r .ground .lists) (i .on) g
+
+      pub offer-next : {deep′ kid′ : List ℕ} {y : ℕ} → y ≡ at next (x - 1) → length deep′ ≡ length deep → length kid′ ≡ length kid → Offering up next deep′ kid′ k y
+      offer-next e p q = record { on = rw e (on-next (r .ground .lists) (i .on) g); deeps = p ∙ i .deeps; kids = q ∙ i .kids }
 
     pub same-deep : length deep ≡ length deep₀
     same-deep = i .deeps ∙ sym (r .ones)
 
     pub same-kid : length kid ≡ length kid₀
     same-kid = i .kids ∙ sym (r .twos)
+
+-- list by list
+pub record Kids (up deep kid : List ℕ) (k : ℕ) : Type 0 where
+  pub far : k ≤ length up
+  pub deeps : length deep ≡ length up
+  pub kids : length kid ≡ length up
+
+module _ {up head next deep₀ kid₀ : List ℕ} {count : ℕ} (r : Walkable up head next deep₀ kid₀ count) where
+  pub kids-start : Kids up deep₀ kid₀ count
+  kids-start = record { far = r .levels .high; deeps = r .ones; kids = r .twos }
+
+  module _ {deep kid : List ℕ} {k : ℕ} (i : Kids up deep kid k) where
+    pub kids-ready : 0 < k → Offerable up head next deep kid (k - 1)
+    kids-ready h = record { ground = r .ground; below = omega (arith, i .far); ones = i .deeps; twos = i .kids }
+
+    pub kids-next : {deep′ kid′ : List ℕ} → length deep′ ≡ length deep → length kid′ ≡ length kid → Kids up deep′ kid′ (k - 1)
+    kids-next p q = record { far = omega (arith, i .far); deeps = p ∙ i .deeps; kids = q ∙ i .kids }
+
+    pub kids-deep : length deep ≡ length deep₀
+    kids-deep = i .deeps ∙ sym (r .ones)
+
+    pub kids-kid : length kid ≡ length kid₀
+    kids-kid = i .kids ∙ sym (r .twos)
+
+  -- for few links every machine is a lane of its own
+  pub alone-lanes : {top : List ℕ} → top ≡ tabulate (length deep₀) (λ v. v) → LanesTo up next kid₀ top count
+  alone-lanes {top} e = record {
+    tops = ap length e ∙ length-tabulate (length deep₀) (λ v. v) ∙ r .ones;
+    lane = λ v h p q. highest (ap (λ t. at t v) e ∙ at-tabulate (length deep₀) (λ v. v) v (rw (r .ones) h));
+  }

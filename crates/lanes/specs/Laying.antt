@@ -33,6 +33,13 @@ pub record Beside (up one two : List ℕ) (v : ℕ) : Type 0 where
   pub ones : length one ≡ length up
   pub twos : length two ≡ length up
 
+-- the list of depth k, with two tables of notes
+pub record Offerable (up head next one two : List ℕ) (k : ℕ) : Type 0 where
+  pub ground : Ground up head next
+  pub below : k < length up
+  pub ones : length one ≡ length up
+  pub twos : length two ≡ length up
+
 -- lists to be walked, with two tables of notes
 pub record Walkable (up head next one two : List ℕ) (count : ℕ) : Type 0 where
   pub ground : Ground up head next

@@ -1,9 +1,11 @@
 // Lanes laid over the machines on lists: a machine and its kid are in one lane. The kid is the child with the deepest machine under it, so a line is cut into
 // few lanes; but which one it is matters to speed alone.
 ghost use mathlib.Core.Path.{_≡_};
-ghost use Prim.Native.Nat.{_+_, max};
+ghost use Prim.Native.Nat.{_+_, _≤_, max};
 ghost use lib.ListN.{length};
-ghost use Rattle.lanes.specs.Laying.{Beside, Walkable, TopFor, LayableAt, LanesTo};
+ghost use Rattle.plain.specs.Table.{tabulate};
+ghost use Rattle.tables.specs.Tree.{mostMachines};
+ghost use Rattle.lanes.specs.Laying.{Beside, Walkable, Offerable, TopFor, LayableAt, LanesTo};
 use crate::table::at;
 
 // The greater of two depths.
@@ -25,28 +27,26 @@ fn offer(up: &[u16], deep: &mut [u16], kid: &mut [u16], v: usize, k: u16)
     }
 }
 
+// Offers the machines of depth k.
+fn offers(up: &[u16], head: &[u16], next: &[u16], deep: &mut [u16], kid: &mut [u16], k: usize)
+    requires { ⌜ Offerable (now up) (now head) (now next) (now deep) (now kid) k ⌝ }
+{
+    let mut x = at(head, k);
+    while 0 < x {
+        let v = x - 1;
+        x = at(next, v);
+        offer(up, deep, kid, v, k as u16);
+    }
+}
+
 // The kids of all machines on lists, from the deepest list to the highest.
-pub fn kids(
-    up: &[u16],
-    head: &[u16],
-    next: &[u16],
-    levels: usize,
-    deep: &mut [u16],
-    kid: &mut [u16],
-)
+fn kids(up: &[u16], head: &[u16], next: &[u16], levels: usize, deep: &mut [u16], kid: &mut [u16])
     requires { ⌜ Walkable (now up) (now head) (now next) (now deep) (now kid) levels ⌝ }
 {
     let mut k = levels;
-    let mut x = 0;
-    while 0 < k + x {
-        if x == 0 {
-            k -= 1;
-            x = at(head, k);
-        } else {
-            let v = x - 1;
-            offer(up, deep, kid, v, k as u16);
-            x = at(next, v);
-        }
+    while 0 < k {
+        k -= 1;
+        offers(up, head, next, deep, kid, k);
     }
 }
 
@@ -73,13 +73,13 @@ fn level(up: &[u16], head: &[u16], next: &[u16], kid: &[u16], top: &mut [u16], k
     let mut x = at(head, k);
     while 0 < x {
         let v = x - 1;
-        top[v] = top_for(up, kid, top, v);
         x = at(next, v);
+        top[v] = top_for(up, kid, top, v);
     }
 }
 
 // The tops of all machines on lists, from the hub down.
-pub fn tops(up: &[u16], head: &[u16], next: &[u16], levels: usize, kid: &[u16], top: &mut [u16])
+fn tops(up: &[u16], head: &[u16], next: &[u16], levels: usize, kid: &[u16], top: &mut [u16])
     requires { ⌜ Walkable (now up) (now head) (now next) (now kid) (now top) levels ⌝ }
     ensures { λ _. ⌜ LanesTo (now (up .entry)) (now (next .entry)) (now (kid .entry)) (now (top .exit)) levels ⌝ }
 {
@@ -88,4 +88,40 @@ pub fn tops(up: &[u16], head: &[u16], next: &[u16], levels: usize, kid: &[u16], 
         level(up, head, next, kid, top, k);
         k += 1;
     }
+}
+
+// Every machine a lane of its own.
+fn alone(top: &mut [u16])
+    requires { ⌜ length (now top) ≤ mostMachines ⌝ }
+    ensures { λ _. ⌜ now (top .exit) ≡ tabulate (length (now (top .entry))) (λ v. v) ⌝ }
+{
+    let mut v = 0;
+    while v < top.len() {
+        top[v] = v as u16;
+        v += 1;
+    }
+}
+
+// So many links are climbed one by one sooner than lanes are laid.
+const FEW_LINKS: usize = 4;
+
+// Puts every machine on a list into a lane, for so many links. Until the tops are written, their place tells how deep the machines under each are.
+pub fn lay(
+    up: &[u16],
+    head: &[u16],
+    next: &[u16],
+    levels: usize,
+    links: usize,
+    kid: &mut [u16],
+    top: &mut [u16],
+)
+    requires { ⌜ Walkable (now up) (now head) (now next) (now top) (now kid) levels ⌝ }
+    ensures { λ _. ⌜ LanesTo (now (up .entry)) (now (next .entry)) (now (kid .exit)) (now (top .exit)) levels ⌝ }
+{
+    if links <= FEW_LINKS {
+        alone(top);
+        return;
+    }
+    kids(up, head, next, levels, top, kid);
+    tops(up, head, next, levels, kid, top);
 }

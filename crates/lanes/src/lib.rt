@@ -1,6 +1,5 @@
 // What a batch of links does, in time near the number of machines and links on every tree: only the lines of the ends are looked at, and the two
 // ends of a link meet by lanes, pieces of lines that are passed at one hop.
-ghost use Rattle.lanes.specs.Laying.{Walkable, LanesTo};
 ghost use Rattle.lanes.specs.Whole.{Applicable, Applied, Bare, Looked, Joinable, Joined, Prepared};
 
 mod groups;
@@ -27,15 +26,6 @@ fn look(
     let levels = seen::see_all(up, depth, low, batch);
     lists::fill(depth, low, head, next);
     levels
-}
-
-// Puts every machine on a list into a lane. Until the tops are written, their place tells how deep the machines under each are.
-fn lay_out(up: &[u16], head: &[u16], next: &[u16], levels: usize, kid: &mut [u16], top: &mut [u16])
-    requires { ⌜ Walkable (now up) (now head) (now next) (now top) (now kid) levels ⌝ }
-    ensures { λ _. ⌜ LanesTo (now (up .entry)) (now (next .entry)) (now (kid .exit)) (now (top .exit)) levels ⌝ }
-{
-    lay::kids(up, head, next, levels, top, kid);
-    lay::tops(up, head, next, levels, kid, top);
 }
 
 // Joins the groups as the links say, and leaves how high their rings reach from each end.
@@ -72,7 +62,7 @@ fn work(
     ensures { λ r. ⌜ Applied (now (up .entry)) (now (depth .entry)) (now (group .entry)) (now (mark .entry)) (now (batch .entry)) (now (group .exit)) (now (mark .exit)) r ⌝ }
 {
     let levels = look(up, depth, batch, low, head, next);
-    lay_out(up, head, next, levels, kid, top);
+    lay::lay(up, head, next, levels, batch.len() / 2, kid, top);
     join(up, depth, top, kid, group, low, batch);
     marks::settle(up, head, next, levels, low, mark)
 }

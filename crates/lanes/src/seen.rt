@@ -15,8 +15,9 @@ fn see(up: &[u16], depth: &[u16], low: &mut [u16], v: usize)
 {
     let mut x = v;
     while at(low, x) == NONE {
+        let p = at(up, x);
         low[x] = depth[x];
-        x = at(up, x);
+        x = p;
     }
 }
 

@@ -8,7 +8,7 @@ use Rattle.lanes.proofs.work.Tie as tie
 join-requires : tie.Need-join-requires
 join-requires c κs = let l = c .before .before .before .before .before .before .before .before in
     let k = l .before .before .before .before .before .before .before .before .before .before .before in
-    join-ready (k .before .before .before .before .before .before .before .before .before .before .before .before .before .before .pre) (k .look .ensures) (search) (l .lay-out .ensures)
+    join-ready (k .before .before .before .before .before .before .before .before .before .before .before .before .before .before .pre) (k .look .ensures) (search) (l .lay .ensures)
 
 settle-requires : tie.Need-settle-requires
 settle-requires c κs = let j = c .before .before .before .before .before .before .before .before in

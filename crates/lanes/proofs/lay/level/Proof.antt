@@ -12,7 +12,7 @@ abbrev μ-loop : tie.MeasureT-loop
 μ-loop up head next kid top₀ k x₀ top x = x
 
 mul-top : tie.Need-mul-top Inv-loop μ-loop
-mul-top c = let l = c .before .before .before in omega (arith, top-in (l .before .before .before .before .before .before .before .pre) (l .loop .inv) (search))
+mul-top c = let l = c .before .before .before .before in omega (arith, top-in (l .before .before .before .before .before .before .before .pre) (l .loop .inv) (search))
 
 pub level-spec : {M : Type 1} → statement M
 level-spec =
@@ -23,10 +23,10 @@ level-spec =
     (λ c κs. search level-in)
     (λ c. search level-start)
     (λ c. search needs)
+    (λ c κs. search next-in)
     (λ c κs. search beside)
     mul-top
     (λ c. search top-in)
-    (λ c κs. search next-in)
     (λ c. search level-less)
     (λ c. search level-next)
     (λ c. search needs)

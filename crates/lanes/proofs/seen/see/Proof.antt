@@ -15,11 +15,11 @@ abbrev μ-loop : tie.MeasureT-loop
 
 loop-less : tie.Need-loop-less Inv-loop μ-loop
 loop-less c = let l = c .before .before .before .before .before in
-    less (l .before .before .before .before .pre) (l .loop .inv) (c .before .before .before .at .ensures) (search) (c .at2 .ensures)
+    less (l .before .before .before .before .pre) (l .loop .inv) (c .before .before .before .at .ensures) (search) (c .before .at2 .ensures)
 
 loop-again : tie.Need-loop-again Inv-loop μ-loop
 loop-again c = let l = c .before .before .before .before .before in
-    next (l .before .before .before .before .pre) (l .loop .inv) (c .before .before .before .at .ensures) (search) (c .at2 .ensures)
+    next (l .before .before .before .before .pre) (l .loop .inv) (c .before .before .before .at .ensures) (search) (c .before .at2 .ensures)
 
 pub see-spec : {M : Type 1} → statement M
 see-spec =
@@ -29,11 +29,11 @@ see-spec =
     μ-loop
     (λ c. search start)
     (λ c κs. search low-in)
+    (λ c κs. search needs)
     (λ c. search needs)
     (λ c. search depth-in)
     (λ c. search needs)
     (λ c. search low-in)
-    (λ c κs. search needs)
     loop-less
     loop-again
     (λ c. search needs)
