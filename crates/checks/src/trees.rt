@@ -104,8 +104,9 @@ fn lay(up: &[u16], known: &mut [u16], v: usize, depth: usize)
     let mut x = v;
     let mut d = depth;
     while known[x] >= UNKNOWN {
+        let p = up[x] as usize;
         known[x] = d as u16;
-        x = up[x] as usize;
+        x = p;
         d -= 1;
     }
 }
