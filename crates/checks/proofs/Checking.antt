@@ -7,17 +7,15 @@ use borrow.Author.Tests.{eq-eqb, ne-eqb}
 use Rattle.tables.specs.Verdict.{checks}
 use Rattle.tables.specs.declared.Fault.{Fault}
 use Rattle.tables.specs.declared.Verdict.the-variants.{the-data as Verdict, Sound, Refused}
-use Rattle.tables.specs.Tree.{mostMachines, hub, sizeVerdict, treeVerdict}
-use Rattle.tables.specs.Tables.{Tables, tablesOf, fresh, sized, sizesVerdict}
+use Rattle.tables.specs.Tree.{mostMachines, sizeVerdict}
+use Rattle.tables.specs.Tables.{Tables, fresh, sized, sizesVerdict}
 use Rattle.tables.specs.Batch.{batchVerdict}
 use Rattle.tables.specs.Report.{Bytes}
 use Rattle.tables.specs.Links.{SiteOf}
 use Rattle.tables.specs.Outcome.{outcome, addVerdict, outputsVerdict, reportVerdict}
 use Rattle.tables.proofs.Verdicts.{not-both, passes, refuses, checks-one, all-sound}
 use Rattle.tables.proofs.Lengths.{Sizes, Lengths, sized-is, size-exact, sizes-exact, lengths}
-use Rattle.tables.proofs.Sound.{sound-tree}
 use Rattle.tables.proofs.Demand1.{site-of}
-use Rattle.checks.specs.RulesCheck.{Sized}
 use Rattle.checks.specs.Started.{started}
 use Rattle.checks.specs.TreeCheck.{Reached}
 

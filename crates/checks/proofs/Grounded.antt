@@ -13,7 +13,7 @@ use Rattle.plain.specs.Table.{at}
 use Rattle.tables.specs.Verdict.{checks}
 use Rattle.tables.specs.declared.Fault.{Fault}
 use Rattle.tables.specs.declared.Verdict.the-variants.{the-data as Verdict, Sound, Refused}
-use Rattle.tables.specs.Tree.{climb, hub, Reaches, depthOf, reachVerdict, treeVerdict}
+use Rattle.tables.specs.Tree.{climb, hub, Reaches, depthOf, treeVerdict}
 use Rattle.tables.specs.Tables.{Tables, tablesOf}
 use Rattle.tables.specs.Rules.{rulesVerdict, tablesVerdict}
 use Rattle.tables.proofs.Verdicts.{refuse-none}

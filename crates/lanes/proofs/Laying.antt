@@ -3,17 +3,15 @@ use mathlib.Core.Path.{_≡_, refl, sym, ap, _∙_}
 use mathlib.Core.List.{List}
 use mathlib.Core.Logic.{_≢_, ⊎-elim, dite}
 use Prim.Native.Nat.{ℕ, _+_, _-_, _<_, _≤_}
-use native.Mathlib.Decide.{ℕ-discrete, decLt}
+use native.Mathlib.Decide.{decLt}
 use native.Mathlib.Omega.{arith}
 use lib.ListN.{length, set, length-set}
 use lib.Seq.{getD-set-same, getD-set-other}
 use Rattle.plain.specs.Table.{at, tabulate}
 use Rattle.plain.proofs.Tabulate.{length-tabulate, at-tabulate}
 use Rattle.graph.specs.Walk.{stay, step}
-use Rattle.rings.specs.Tree.{Uplink}
 use Rattle.rings.proofs.Under.{uplinked}
 use Rattle.tables.specs.Tree.{depthOf}
-use Rattle.tables.specs.AsTree.{treeOf}
 use Rattle.tables.specs.Demand1.{SoundTree}
 use Rattle.tables.proofs.Sound.{rooted}
 use Rattle.lanes.specs.Depths.{Listed, OnList, Past}

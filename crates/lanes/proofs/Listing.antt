@@ -9,7 +9,7 @@ use lib.ListN.{length, set, length-set}
 use lib.Seq.{getD-set-other}
 use Rattle.plain.specs.Table.{at}
 use Rattle.plain.proofs.Putting.{Put, here, there, put}
-use Rattle.lanes.specs.Seen.{none, Seen}
+use Rattle.lanes.specs.Seen.{none}
 use Rattle.lanes.specs.Depths.{Listed, Lists, Listing, Listable, ListableAt}
 
 pub start : {depth low head next : List ℕ} → Listable depth low head next → Listing depth low 0 head next

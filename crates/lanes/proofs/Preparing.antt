@@ -1,7 +1,7 @@
 -- What each step of a batch asks for, from what the steps before it left.
 use mathlib.Core.Path.{_≡_, refl, sym, _∙_}
 use mathlib.Core.List.{List}
-use mathlib.Core.Logic.{_≢_, ⊎-elim, dite}
+use mathlib.Core.Logic.{⊎-elim, dite}
 use Prim.Native.Nat.{ℕ, zero, suc, _<_, _≤_}
 use native.Mathlib.Decide.{ℕ-discrete}
 use native.Mathlib.Omega.{arith}
@@ -9,17 +9,14 @@ use lib.ListN.{length, take, replicate, length-replicate, getD-replicate}
 use lib.Seq.{length-take-le, getD-take}
 use Rattle.plain.specs.Table.{at}
 use Rattle.graph.specs.Walk.{Relation}
-use Rattle.rings.specs.Tree.{Uplink}
-use Rattle.rings.proofs.Under.{in-tree}
 use Rattle.tables.specs.Tree.{mostMachines, depthOf}
-use Rattle.tables.specs.AsTree.{treeOf}
 use Rattle.tables.specs.Tables.{Tables}
 use Rattle.tables.specs.Batch.{pairs}
 use Rattle.tables.proofs.Sound.{soon, rooted}
 use Rattle.tables.proofs.Told.{Told, group-name}
-use Rattle.lanes.specs.Seen.{none, Seen, Lookable, SeenTo}
+use Rattle.lanes.specs.Seen.{none, Seen, SeenTo}
 use Rattle.lanes.specs.Depths.{Listed, Lists, Listing, Listable}
-use Rattle.lanes.specs.Laying.{Ground, Levels, Walkable, LanesTo}
+use Rattle.lanes.specs.Laying.{LanesTo}
 use Rattle.lanes.specs.Forest.{Forest, Flattened}
 use Rattle.lanes.specs.Low.{Sweepable}
 use Rattle.lanes.specs.Hung.{groupings, Source, Batched, HungAll}
@@ -48,12 +45,6 @@ module _ {up depth batch low head next : List ℕ} (b : Bare up depth batch low 
   }
 
   module _ {head′ next′ : List ℕ} (l : Listing depth low′ (length depth) head′ next′) where
-    pub same-heads : length head′ ≡ length head
-    same-heads = l .lists .heads ∙ depths ∙ sym (b .heads)
-
-    pub same-nexts : length next′ ≡ length next
-    same-nexts = l .lists .nexts ∙ depths ∙ sym (b .nexts)
-
     to-list : (v : ℕ) → v < length up → Seen low′ v → Listed next′ v
     to-list v h = l .seen v (rw depths h)
 
@@ -104,9 +95,6 @@ joined {up} {group} {batch} n f = record { names = f (groupings up batch (length
 
 module _ {up depth group mark batch low₀ head₀ next₀ kid₀ top₀ : List ℕ} (p : Prepared up depth group mark batch low₀ head₀ next₀ kid₀ top₀)
     {low head next : List ℕ} {count : ℕ} (k : Looked up batch low head next count) where
-  pub lay-ready : Walkable up head next top₀ kid₀ count
-  lay-ready = record { ground = k .ground; levels = k .levels; ones = p .tops; twos = p .kids }
-
   pub join-ready : {kid top : List ℕ} → length kid ≡ length kid₀ → LanesTo up next kid top count → Joinable up depth top kid group low batch
   join-ready e l = let r = p .given in record {
     few = r .few;

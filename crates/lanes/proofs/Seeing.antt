@@ -4,7 +4,7 @@ use mathlib.Core.Path.{_≡_, refl, sym, ap, _∙_}
 use mathlib.Core.Bool.{cond}
 use mathlib.Core.List.{List}
 use mathlib.Core.Logic.{_≢_, _⊎_, inl, inr, ⊎-elim, dite}
-use Prim.Native.Nat.{ℕ, suc, _+_, _<_, _≤_, max}
+use Prim.Native.Nat.{ℕ, _+_, _<_, _≤_, max}
 use native.Mathlib.Decide.{ℕ-discrete}
 use native.Mathlib.Omega.{arith}
 use lib.ListN.{length, set, length-set}
@@ -17,7 +17,7 @@ use Rattle.rings.proofs.Under.{uplinked}
 use Rattle.tables.specs.Tree.{mostMachines, hub, depthOf}
 use Rattle.tables.specs.AsTree.{treeOf}
 use Rattle.tables.proofs.Sound.{soon, rooted}
-use Rattle.lanes.specs.Seen.{none, Seen, Fresh, Seeable, SeenFrom, Lookable, SeenTo}
+use Rattle.lanes.specs.Seen.{none, Seen, Seeable, SeenFrom, Lookable, SeenTo}
 use Rattle.lanes.proofs.Reading.{depth-size, depth-at}
 use Rattle.lanes.proofs.Numbers.{number-in}
 

@@ -70,8 +70,3 @@ says-some (suc n) {p} {P} s =
 
 pub says-if : {a b : Bool} {P Q : Type 0} → Says a P → Says b Q → Says (not a || b) (P → Q)
 says-if s t = says-map (λ f p. f (λ q. q p)) (λ f q. elim (decided s) [ yes p ↦ f p | no o ↦ absurd (q o) ]) (says-unless (says-not s) t)
-
--- two tests of one statement are one
-pub says-same : {a b : Bool} {P : Type 0} → Says a P → Says b P → a ≡ b
-says-same {a = true} s t = sym (t .takes (s .gives refl))
-says-same {a = false} s t = sym (refutes t (refuted s refl))

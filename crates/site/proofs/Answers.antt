@@ -1,5 +1,5 @@
 -- How a call comes out by its checks: one that refuses is the answer, and what was lent is as it came; where all have passed, it is done.
-use mathlib.Core.Path.{_≡_, refl, sym, ap, _∙_}
+use mathlib.Core.Path.{_≡_, refl, ap, _∙_}
 use mathlib.Core.List.{List}
 use Prim.Native.Nat.{ℕ, _≤_}
 use native.Mathlib.Omega.{arith}

@@ -33,7 +33,7 @@ pub data Due (up : List ℕ) (a b x : ℕ) : ℕ → Type 0 where
   deep : On up a b x → at up x ≢ meet up a b → Due up a b x 2
 
 module _ {up : List ℕ} (s : SoundTree up) {a b : ℕ} (h : a < length up) (k : b < length up) where
-  pub says-on : (x : ℕ) → x < length up → Says (ring up a b x && not (eqb x (meet up a b))) (On up a b x)
+  says-on : (x : ℕ) → x < length up → Says (ring up a b x && not (eqb x (meet up a b))) (On up a b x)
   unfolding ring
   says-on x l = says-and (says-and (says-over s (meet up a b) x l) (says-or (says-over s x a h) (says-over s x b k))) (says-not (says-eq x (meet up a b)))
 

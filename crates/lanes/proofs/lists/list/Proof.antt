@@ -1,5 +1,4 @@
 -- `lists::list` meets its contract: a machine that is not seen is left out, another one is its list's head.
-use native.Mathlib.Omega.{arith}
 use borrow.Author.Needs.{needs}
 use Rattle.lanes.proofs.Listing.{head-in, skipped, one-more}
 use Rattle.lanes.proofs.lists.list.Statement.{statement}

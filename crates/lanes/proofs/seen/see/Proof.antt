@@ -1,6 +1,5 @@
 -- `seen::see` meets its contract: below `x` the line is seen; the depth of `x` falls, or the hub's own entry is written.
 use Prim.Native.Nat.{_+_}
-use native.Mathlib.Omega.{arith}
 use borrow.Author.Needs.{needs}
 use Rattle.tables.specs.Tree.{depthOf}
 use Rattle.lanes.proofs.Seeing.{unseen, Seeing, start, low-in, depth-in, next, less, end}
