@@ -58,8 +58,8 @@ static unsigned up_of(enum tree tree, unsigned v, unsigned n)
         return v < n / 2 ? v - 1 : below(n / 2);
     case DEEP:
         return v - 1 - below(v < 3 ? v : 3);
-    case COMB: /* the even machines are a path, and the next odd one is the tooth of each */
-        return v % 2 == 1 ? v - 1 : v - 2;
+    case COMB: /* every 64th machine is one of the back, and the 63 behind it are its tooth */
+        return v % 64 == 0 ? v - 64 : v - 1;
     default:
         return below(v);
     }

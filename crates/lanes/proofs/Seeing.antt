@@ -8,6 +8,7 @@ use Prim.Native.Nat.{ℕ, _+_, _<_, _≤_, max}
 use native.Mathlib.Decide.{ℕ-discrete}
 use native.Mathlib.Omega.{arith}
 use lib.ListN.{length, set, length-set}
+use lib.Seq.{ext-getD}
 use lib.Dec.{eqb}
 use borrow.Author.Tests.{eq-eqb, ne-eqb}
 use Rattle.plain.specs.Table.{at}
@@ -17,7 +18,7 @@ use Rattle.rings.proofs.Under.{uplinked}
 use Rattle.tables.specs.Tree.{mostMachines, hub, depthOf}
 use Rattle.tables.specs.AsTree.{treeOf}
 use Rattle.tables.proofs.Sound.{soon, rooted}
-use Rattle.lanes.specs.Seen.{none, Seen, Seeable, SeenFrom, Lookable, SeenTo}
+use Rattle.lanes.specs.Seen.{none, Seen, Seeable, SeenFrom, Lookable, SeenTo, SeenEvery}
 use Rattle.lanes.proofs.Reading.{depth-size, depth-at}
 use Rattle.lanes.proofs.Numbers.{number-in}
 
@@ -162,3 +163,59 @@ module _ {up depth low₀ batch : List ℕ} (r : Lookable up depth low₀ batch)
 
   pub all-end : {low : List ℕ} {levels i : ℕ} → SeenTo up batch low levels i → length batch ≤ i → SeenTo up batch low levels (length batch)
   all-end {i = i} p h = let e : i ≡ length batch = omega (arith, p .far) in rw e at p
+
+-- every machine, one after another
+pub record Every (depth low : List ℕ) (levels i : ℕ) : Type 0 where
+  pub far : i ≤ length depth
+  pub size : length low ≡ length depth
+  pub copied : (v : ℕ) → v < i → at low v ≡ at depth v
+  pub level : (v : ℕ) → v < i → at depth v < levels
+  pub least : (n : ℕ) → ((v : ℕ) → v < length depth → at depth v < n) → levels ≤ n
+
+pub every-start : {depth low : List ℕ} → length low ≡ length depth → Every depth low 0 0
+every-start e = record { far = omega arith; size = e; copied = λ v h. absurd (omega arith); level = λ v h. absurd (omega arith); least = λ n f. omega arith }
+
+module _ {depth low : List ℕ} {levels i : ℕ} (p : Every depth low levels i) where
+  pub every-next : {d n : ℕ} → i < length depth → d ≡ at depth i → n ≡ max levels (d + 1) → Every depth (set low i (at depth i)) n (i + 1)
+  every-next {d} {n} h e en = record {
+    far = omega arith;
+    size = length-set low i (at depth i) ∙ p .size;
+    copied = λ v g. copied v g (put low i (at depth i) v (rw (p .size) h));
+    level = λ v g. dite (ℕ-discrete v i) (λ c. omega (arith, ap (at depth) c)) (λ o. omega (arith, p .level v (omega arith)));
+    least = λ m f. omega (arith, p .least m f, f i h);
+  }
+    where
+      copied : (v : ℕ) {a : ℕ} → v < i + 1 → Put low i (at depth i) v a → a ≡ at depth v
+      copied v g (here c f) = f ∙ ap (at depth) (sym c)
+      copied v g (there o f) = f ∙ p .copied v (omega arith)
+
+  pub every-end : length depth ≤ i → SeenEvery depth low levels
+  every-end h = record {
+    copied = ext-getD 0 low depth (p .size) (λ v g. p .copied v (omega arith));
+    level = λ v g. p .level v (omega arith);
+    least = p .least;
+  }
+
+-- whole lines are among them
+module _ {up depth low₀ batch : List ℕ} (r : Lookable up depth low₀ batch) where
+  pub every-ready : length low₀ ≡ length depth
+  every-ready = r .size ∙ sym (depth-size up (r .depths))
+
+  pub every-seen : {low : List ℕ} {levels : ℕ} → SeenEvery depth low levels → SeenTo up batch low levels (length batch)
+  every-seen {low} {levels} k = record {
+    far = omega arith;
+    fresh = record {
+      size = ap length (k .copied) ∙ depth-size up (r .depths);
+      upward = λ q _. seen (rooted (r .tree) .low q);
+      own = λ v h _. entry v h;
+    };
+    ends = λ j h. seen (number-in (length up) batch (r .accepted) j h);
+    high = k .least (length up) (λ v h. let g : v < length up = rw (depth-size up (r .depths)) at h in omega (arith, depth-at up (r .depths) v g, soon (r .tree) v g));
+    level = λ v h _. omega (arith, k .level v (rw (depth-size up (r .depths)) h), depth-at up (r .depths) v h);
+  }
+    where
+      entry : (v : ℕ) → v < length up → at low v ≡ depthOf up v
+      entry v h = ap (λ l. at l v) (k .copied) ∙ depth-at up (r .depths) v h
+
+      seen : {v : ℕ} → v < length up → Seen low v
+      seen {v} h z = omega (arith, entry v h, soon (r .tree) v h, r .few)

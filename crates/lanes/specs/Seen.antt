@@ -57,3 +57,9 @@ pub record SeenTo (up batch low : List ℕ) (levels i : ℕ) : Type 0 where
   pub ends : (j : ℕ) → j < i → Seen low (at batch j)
   pub high : levels ≤ length up
   pub level : (x : ℕ) → x < length up → Seen low x → depthOf up x < levels
+
+-- every machine has its depth as its entry, and the levels are enough
+pub record SeenEvery (depth low : List ℕ) (levels : ℕ) : Type 0 where
+  pub copied : low ≡ depth
+  pub level : (v : ℕ) → v < length depth → at depth v < levels
+  pub least : (n : ℕ) → ((v : ℕ) → v < length depth → at depth v < n) → levels ≤ n

@@ -1,8 +1,8 @@
-// The machines on the lines of a batch's ends: what the batch can change is among them.
+// The machines on the lines of a batch's ends, or more of them: what the batch can change is among them.
 ghost use mathlib.Core.Path.{_≡_};
 ghost use Prim.Native.Nat.{max};
 ghost use lib.ListN.{length};
-ghost use Rattle.lanes.specs.Seen.{Seeable, SeenFrom, Lookable, SeenTo};
+ghost use Rattle.lanes.specs.Seen.{Seeable, SeenFrom, Lookable, SeenTo, SeenEvery};
 use crate::table::at;
 
 // The entry of a machine that is not seen.
@@ -29,7 +29,7 @@ fn deeper(a: usize, b: usize) -> usize
 }
 
 // From every end of a batch that was accepted. Gives back how many levels the machines seen have.
-pub fn see_all(up: &[u16], depth: &[u16], low: &mut [u16], batch: &[u16]) -> usize
+fn see_ends(up: &[u16], depth: &[u16], low: &mut [u16], batch: &[u16]) -> usize
     requires { ⌜ Lookable (now up) (now depth) (now low) (now batch) ⌝ }
     ensures { λ r. ⌜ SeenTo (now (up .entry)) (now (batch .entry)) (now (low .exit)) r (length (now (batch .entry))) ⌝ }
 {
@@ -42,4 +42,31 @@ pub fn see_all(up: &[u16], depth: &[u16], low: &mut [u16], batch: &[u16]) -> usi
         i += 1;
     }
     levels
+}
+
+// Every machine. Gives back how many levels the tree has.
+fn see_every(depth: &[u16], low: &mut [u16]) -> usize
+    requires { ⌜ length (now low) ≡ length (now depth) ⌝ }
+    ensures { λ r. ⌜ SeenEvery (now (depth .entry)) (now (low .exit)) r ⌝ }
+{
+    let mut levels: usize = 0;
+    let mut v = 0;
+    while v < depth.len() {
+        let d = depth[v];
+        low[v] = d;
+        levels = deeper(levels, d as usize + 1);
+        v += 1;
+    }
+    levels
+}
+
+// The machines on the lines of a batch's ends, or all, where there are so many links that most machines are: that is sooner done.
+pub fn see_all(up: &[u16], depth: &[u16], low: &mut [u16], batch: &[u16]) -> usize
+    requires { ⌜ Lookable (now up) (now depth) (now low) (now batch) ⌝ }
+    ensures { λ r. ⌜ SeenTo (now (up .entry)) (now (batch .entry)) (now (low .exit)) r (length (now (batch .entry))) ⌝ }
+{
+    if batch.len() < up.len() / 4 {
+        return see_ends(up, depth, low, batch);
+    }
+    see_every(depth, low)
 }
