@@ -2,7 +2,8 @@
 use mathlib.Core.Path.{_≡_}
 use mathlib.Core.Bool.{cond}
 use mathlib.Core.List.{List}
-use Prim.Native.Nat.{ℕ, _+_, _-_, _<_, _≤_, max, min}
+use mathlib.Core.Logic.{_⊎_}
+use Prim.Native.Nat.{ℕ, _+_, _*_, _-_, _<_, _≤_, max, min}
 use lib.ListN.{length, set}
 use lib.Dec.{leb, eqb}
 use Rattle.plain.specs.Table.{at, total}
@@ -10,7 +11,7 @@ use Rattle.rings.specs.Tree.{Under}
 use Rattle.tables.specs.Tree.{depthOf}
 use Rattle.tables.specs.AsTree.{treeOf}
 use Rattle.lanes.specs.Seen.{none}
-use Rattle.lanes.specs.Depths.{Listed}
+use Rattle.lanes.specs.Depths.{Listed, Past}
 use Rattle.lanes.specs.Laying.{Ground, Levels}
 
 -- the mark that a ring which reaches depth l asks of a machine at depth d below it
@@ -59,3 +60,41 @@ pub record Swept (up next low mark mark′ : List ℕ) (rise : ℕ) : Type 0 whe
   pub size : length mark′ ≡ length up
   pub marked : (v : ℕ) → v < length up → (l : ℕ) × LeastUnder up next low v l × (at mark′ v ≡ max (at mark v) (asked l (depthOf up v)))
   pub sum : total mark′ ≡ total mark + rise
+
+-- some machine under v has l as its entry
+pub record Known (up low : List ℕ) (v l : ℕ) : Type 0 where
+  pub from : ℕ
+  pub low-in : from < length up
+  pub under : Under (treeOf up) v from
+  pub is : l ≡ at low from
+
+-- whoever is on deeper lists is passed, and on the list of depth k whoever the sweep came by
+abbrev pub Passed : List ℕ → ℕ → ℕ → ℕ → Type 0
+Passed up k x u = (k < depthOf up u) ⊎ Past (depthOf up) k x u
+
+-- the sweep stands on the list of depth k, before the machine that x is one more than; the marks rose by rise so far
+pub record Sweeping (up next low₀ mark₀ low mark : List ℕ) (k x rise : ℕ) : Type 0 where
+  pub lows : length low ≡ length up
+  pub marks : length mark ≡ length up
+  pub falls : (v : ℕ) → at low v ≤ at low₀ v
+  pub known : (v : ℕ) → v < length up → Known up low₀ v (at low v)
+  pub closed : (v : ℕ) → v < length up → Listed next v → Passed up k x v → at low (at up v) ≤ at low v
+  pub marked : (v : ℕ) → v < length up → Listed next v → Passed up k x v → at mark v ≡ max (at mark₀ v) (asked (at low v) (depthOf up v))
+  pub rest : (v : ℕ) → v < length up → at next v ≡ none ⊎ ¬ Passed up k x v → at mark v ≡ at mark₀ v
+  pub blank : (v : ℕ) → v < length up → at next v ≡ none → at low v ≡ at low₀ v
+  pub sum : total mark ≡ total mark₀ + rise
+
+-- the list of depth k, with entries and marks
+pub record SweepableAt (up head next low mark : List ℕ) (k : ℕ) : Type 0 where
+  pub ground : Ground up head next
+  pub below : k < length up
+  pub lows : length low ≡ length up
+  pub marks : length mark ≡ length up
+
+-- from x on to the list's end, whatever was swept before
+pub record SweptFrom (up next low low′ mark mark′ : List ℕ) (k x r : ℕ) : Type 0 where
+  pub sweeps : (low₀ mark₀ : List ℕ) (rise : ℕ) → Sweeping up next low₀ mark₀ low mark (k + 1) 0 rise → Sweeping up next low₀ mark₀ low′ mark′ k x (rise + r)
+  pub small : r + 2 * x ≤ 2 * length up
+
+abbrev pub LevelSwept : List ℕ → List ℕ → List ℕ → List ℕ → List ℕ → List ℕ → ℕ → ℕ → Type 0
+LevelSwept up next low low′ mark mark′ k r = SweptFrom up next low low′ mark mark′ k 0 r

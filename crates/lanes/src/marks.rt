@@ -2,7 +2,7 @@
 ghost use mathlib.Core.Path.{_≡_};
 ghost use Prim.Native.Nat.{_<_, max, min};
 ghost use lib.ListN.{length};
-ghost use Rattle.lanes.specs.Low.{asked, lowered, Lifted, Handable, Handed, Sweepable, Swept};
+ghost use Rattle.lanes.specs.Low.{asked, lowered, Lifted, Handable, Handed, Sweepable, Swept, SweepableAt, LevelSwept};
 use crate::table::at;
 
 // The lesser of two depths.
@@ -58,30 +58,31 @@ fn hand_up(up: &[u16], low: &mut [u16], mark: &mut [u8], v: usize, k: usize) -> 
     lift(mark, v, ask(l as usize, k))
 }
 
+// The machines of depth k. Gives back by how much their marks rose.
+fn sweep_level(up: &[u16], head: &[u16], next: &[u16], low: &mut [u16], mark: &mut [u8], k: usize) -> usize
+    requires { ⌜ SweepableAt (now up) (now head) (now next) (now low) (now mark) k ⌝ }
+    ensures { λ r. ⌜ LevelSwept (now (up .entry)) (now (next .entry)) (now (low .entry)) (now (low .exit)) (now (mark .entry)) (now (mark .exit)) k r ⌝ }
+{
+    let mut rise: usize = 0;
+    let mut x = at(head, k);
+    while 0 < x {
+        let v = x - 1;
+        x = at(next, v);
+        rise += hand_up(up, low, mark, v, k);
+    }
+    rise
+}
+
 // Every machine on lists, from the deepest list to the highest. Gives back by how much the marks rose.
-pub fn settle(
-    up: &[u16],
-    head: &[u16],
-    next: &[u16],
-    levels: usize,
-    low: &mut [u16],
-    mark: &mut [u8],
-) -> usize
+pub fn settle(up: &[u16], head: &[u16], next: &[u16], levels: usize, low: &mut [u16], mark: &mut [u8]) -> usize
     requires { ⌜ Sweepable (now up) (now head) (now next) (now low) (now mark) levels ⌝ }
     ensures { λ r. ⌜ Swept (now (up .entry)) (now (next .entry)) (now (low .entry)) (now (mark .entry)) (now (mark .exit)) r ⌝ }
 {
     let mut rise: usize = 0;
     let mut k = levels;
-    let mut x = 0;
-    while 0 < k + x {
-        if x == 0 {
-            k -= 1;
-            x = at(head, k);
-        } else {
-            let v = x - 1;
-            rise += hand_up(up, low, mark, v, k);
-            x = at(next, v);
-        }
+    while 0 < k {
+        k -= 1;
+        rise += sweep_level(up, head, next, low, mark, k);
     }
     rise
 }
