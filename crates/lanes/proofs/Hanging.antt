@@ -21,7 +21,7 @@ use Rattle.tables.proofs.Sound.{rooted}
 use Rattle.tables.proofs.Lines.{meets}
 use Rattle.tables.specs.Links.{Good}
 use Rattle.lanes.proofs.Reading.{depth-size, depth-at}
-use Rattle.lanes.proofs.Linking.{top-test, top-below, top-in}
+use Rattle.lanes.proofs.Linking.{last-test, last-below, last-in}
 use Rattle.lanes.proofs.Numbers.{even, in-pairs, link-good}
 use Rattle.lanes.specs.Lane.{MetAt}
 use Rattle.lanes.specs.Forest.{Unitable, joinedBelow, UnitedBelow}
@@ -44,8 +44,8 @@ module _ {up depth top kid group low : List ℕ} {a b w c d : ℕ} (h : Hangable
   unite-ready = record {
     few = rw (h .groups) (h .few);
     down = h .down;
-    one = rw (h .groups) (top-in (h .hops .ends .tree) (h .hops .ends .one) (over-both .0) (m .left));
-    two = rw (h .groups) (top-in (h .hops .ends .tree) (h .hops .ends .two) (over-both .1) (m .right));
+    one = rw (h .groups) (last-in (h .hops .ends .tree) (h .hops .ends .one) (over-both .0) (m .left));
+    two = rw (h .groups) (last-in (h .hops .ends .tree) (h .hops .ends .two) (over-both .1) (m .right));
   }
 
   -- the groups below w are those that the link joins
@@ -53,12 +53,12 @@ module _ {up depth top kid group low : List ℕ} {a b w c d : ℕ} (h : Hangable
   unfolding grouped
   below flat =
       let e = h .hops .ends in
-      rw (← m .meets, top-test (e .tree) (e .one) (over-both .0) (m .left), top-test (e .tree) (e .two) (over-both .1) (m .right))
+      rw (← m .meets, last-test (e .tree) (e .one) (over-both .0) (m .left), last-test (e .tree) (e .two) (over-both .1) (m .right))
       (by-cases (eqb a w) (λ f. rw f) (λ f. by-cases (eqb b w) (λ g. rw (f, g)) (λ g. rw (
         f,
         g,
-        top-below (e .tree) (e .one) (over-both .0) (m .left) (eqb-false a w f),
-        top-below (e .tree) (e .two) (over-both .1) (m .right) (eqb-false b w g),
+        last-below (e .tree) (e .one) (over-both .0) (m .left) (eqb-false a w f),
+        last-below (e .tree) (e .two) (over-both .1) (m .right) (eqb-false b w g),
       ))))
 
   pub hung : {low₁ low₂ group′ : List ℕ} → low₁ ≡ lowered low a (at depth w) → low₂ ≡ lowered low₁ b (at depth w) → UnitedBelow group group′ w c d

@@ -19,7 +19,7 @@ use Rattle.tables.specs.Demand1.{SoundTree}
 use Rattle.tables.proofs.Sound.{rooted}
 use Rattle.tables.proofs.Lines.{meets}
 use Rattle.lanes.proofs.Reading.{depth-size, depth-at}
-use Rattle.lanes.specs.Lane.{Laned, Hops, Stand, Closes, left-higher, right-higher, level, Top, MetAt}
+use Rattle.lanes.specs.Lane.{Laned, Hops, Stand, Closes, left-higher, right-higher, level, Last, MetAt}
 use Rattle.lanes.proofs.InLanes.{foot, line-in, top-over, lane-same, lane-kid, lane-line, top-self}
 
 -- one end's climb from a stands at x, in the lane of top s, and came by c last
@@ -27,7 +27,7 @@ pub record Arm (up top : List ℕ) (a x c s : ℕ) : Type 0 where
   pub low : x < length up
   pub behind : Under (treeOf up) x a
   pub highest : s ≡ at top x
-  pub tops : Top up a x c
+  pub tops : Last up a x c
 
 -- both climbs, whose lines meet at w as those of a and b do
 pub record Hopping (up top : List ℕ) (a b w x c s y d t : ℕ) : Type 0 where
@@ -74,7 +74,7 @@ module _ {up : List ℕ} (s : SoundTree up) {top kid : List ℕ} where
       record { low = s .inside (at top x) (r .low); behind = join u (one-step r); highest = refl; tops = inr (r, u) }
 
   -- the arm of the lower of two machines of one lane ends at the kid of the other
-  lower-arm : {b x y d t : ℕ} → x < length up → Laned up top kid x → Laned up top kid y → Arm up top b y d t → at top x ≡ at top y → depthOf up x < depthOf up y → Top up b x (at kid x)
+  lower-arm : {b x y d t : ℕ} → x < length up → Laned up top kid x → Laned up top kid y → Arm up top b y d t → at top x ≡ at top y → depthOf up x < depthOf up y → Last up b x (at kid x)
   lower-arm {b} {x} {y} h p i k e d =
       let u = lane-line s y x (k .low) h i p e (omega arith) in
       let (r, v) = lane-kid s i u (rw (← e) (top-over s x h p)) (λ q. omega (arith, ap (depthOf up) q)) in
@@ -151,10 +151,10 @@ module _ {up depth top kid : List ℕ} {a b : ℕ} (h : Hops up depth top kid a 
           antisym (rooted (h .ends .tree)) (i .ahead .left) (i .ahead .lowest x stay u)
 
       -- x is the higher
-      closes-left : depthOf up x < depthOf up y → (x ≡ w) × Top up a x c × Top up b x (at kid x)
+      closes-left : depthOf up x < depthOf up y → (x ≡ w) × Last up a x c × Last up b x (at kid x)
       closes-left g = (higher (omega arith), i .left .tops, lower-arm (h .ends .tree) (i .left .low) laned-left laned-right (i .right) one-lane g)
 
-      closes-level : depthOf up x ≡ depthOf up y → (x ≡ w) × Top up a x c × Top up b x d
+      closes-level : depthOf up x ≡ depthOf up y → (x ≡ w) × Last up a x c × Last up b x d
       closes-level g =
           let u = lane-line (h .ends .tree) y x (i .right .low) (i .left .low) laned-right laned-left one-lane (omega arith) in
           (higher (omega arith), i .left .tops, rw (foot (h .ends .tree) u (omega arith)) (i .right .tops))

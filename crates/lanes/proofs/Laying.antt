@@ -16,10 +16,10 @@ use Rattle.tables.specs.Demand1.{SoundTree}
 use Rattle.tables.proofs.Sound.{rooted}
 use Rattle.lanes.specs.Depths.{Listed, OnList, Past}
 use Rattle.lanes.specs.Lane.{InLane, highest, along, Laned}
-use Rattle.lanes.specs.Laying.{Ground, Levels, Beside, Offerable, Walkable, TopFor, itself, as-kid, LanesTo, LayableAt}
+use Rattle.lanes.specs.Laying.{Ground, Levels, Noted, Offerable, Walkable, TopFor, itself, as-kid, LanesTo, LayableAt}
 use Rattle.lanes.proofs.Walking.{on-head, none-past, here-in, here-depth, on-next, next-less, past-more}
 
--- a top that is written at v is no matter to a machine that is no deeper
+-- a top that is written at v is no matter to a machine that is no ranker
 in-lane-put : {up top kid : List ℕ} (s : SoundTree up) {u v : ℕ} (t : ℕ) → u ≢ v → depthOf up u ≤ depthOf up v → InLane up top kid u → InLane up (set top v t) kid u
 in-lane-put {up} {top} s {u} {v} t o d (highest e) = highest (getD-set-other top v u t 0 o ∙ e)
 in-lane-put {up} {top} s {u} {v} t o d (along r e k) =
@@ -58,7 +58,7 @@ module _ {up head next kid top₀ : List ℕ} {k : ℕ} (r : LayableAt up head n
       here : x - 1 < length up
       here = here-in (r .ground .lists) (i .on) g
 
-      pub beside : Beside up kid top (x - 1)
+      pub beside : Noted up kid top (x - 1)
       beside = record { few = r .ground .few; here = here; above = r .ground .tree .inside (x - 1) here; ones = r .kids; twos = i .higher .tops }
 
       pub top-in : x - 1 < length top
@@ -112,22 +112,19 @@ laned g n l v h p z stay = l .lane v h p (n .level v h p)
 laned g n l v h p z (step {b = b} r u) = laned g n l b (rooted (g .tree) .low r) (g .upward r p) z u
 
 -- the walks that leave kids do no more than stay inside their tables
-pub record Offering (up next deep kid : List ℕ) (k x : ℕ) : Type 0 where
+pub record Offering (up next rank kid : List ℕ) (k x : ℕ) : Type 0 where
   pub on : OnList (length up) (depthOf up) next k x
-  pub deeps : length deep ≡ length up
+  pub ranks : length rank ≡ length up
   pub kids : length kid ≡ length up
 
-module _ {up head next deep₀ kid₀ : List ℕ} {k : ℕ} (r : Offerable up head next deep₀ kid₀ k) where
+module _ {up head next rank₀ kid₀ : List ℕ} {k : ℕ} (r : Offerable up head next rank₀ kid₀ k) where
   pub offer-in : k < length head
   offer-in = rw (r .ground .lists .heads) (r .below)
 
-  pub offer-few : k < 4096
-  offer-few = omega (arith, r .below, r .ground .few)
+  pub offer-start : {x : ℕ} → x ≡ at head k → Offering up next rank₀ kid₀ k x
+  offer-start e = rw e (record { on = on-head (r .ground .lists) k; ranks = r .ones; kids = r .twos })
 
-  pub offer-start : {x : ℕ} → x ≡ at head k → Offering up next deep₀ kid₀ k x
-  offer-start e = rw e (record { on = on-head (r .ground .lists) k; deeps = r .ones; kids = r .twos })
-
-  module _ {deep kid : List ℕ} {x : ℕ} (i : Offering up next deep kid k x) where
+  module _ {rank kid : List ℕ} {x : ℕ} (i : Offering up next rank kid k x) where
     module _ (g : 0 < x) where
       offered : x - 1 < length up
       offered = here-in (r .ground .lists) (i .on) g
@@ -135,47 +132,47 @@ module _ {up head next deep₀ kid₀ : List ℕ} {k : ℕ} (r : Offerable up he
       pub offer-next-in : x - 1 < length next
       offer-next-in = rw (r .ground .lists .nexts) offered
 
-      pub offer-ready : Beside up deep kid (x - 1)
-      offer-ready = record { few = r .ground .few; here = offered; above = r .ground .tree .inside (x - 1) offered; ones = i .deeps; twos = i .kids }
+      pub offer-ready : Noted up rank kid (x - 1)
+      offer-ready = record { few = r .ground .few; here = offered; above = r .ground .tree .inside (x - 1) offered; ones = i .ranks; twos = i .kids }
 
       pub offer-less : {y : ℕ} → y ≡ at next (x - 1) → y < x
       offer-less = next-less (r .ground .lists) (i .on) g
 
-      pub offer-next : {deep′ kid′ : List ℕ} {y : ℕ} → y ≡ at next (x - 1) → length deep′ ≡ length deep → length kid′ ≡ length kid → Offering up next deep′ kid′ k y
-      offer-next e p q = record { on = rw e (on-next (r .ground .lists) (i .on) g); deeps = p ∙ i .deeps; kids = q ∙ i .kids }
+      pub offer-next : {rank′ kid′ : List ℕ} {y : ℕ} → y ≡ at next (x - 1) → length rank′ ≡ length rank → length kid′ ≡ length kid → Offering up next rank′ kid′ k y
+      offer-next e p q = record { on = rw e (on-next (r .ground .lists) (i .on) g); ranks = p ∙ i .ranks; kids = q ∙ i .kids }
 
-    pub same-deep : length deep ≡ length deep₀
-    same-deep = i .deeps ∙ sym (r .ones)
+    pub same-rank : length rank ≡ length rank₀
+    same-rank = i .ranks ∙ sym (r .ones)
 
     pub same-kid : length kid ≡ length kid₀
     same-kid = i .kids ∙ sym (r .twos)
 
 -- list by list
-pub record Kids (up deep kid : List ℕ) (k : ℕ) : Type 0 where
+pub record Kids (up rank kid : List ℕ) (k : ℕ) : Type 0 where
   pub far : k ≤ length up
-  pub deeps : length deep ≡ length up
+  pub ranks : length rank ≡ length up
   pub kids : length kid ≡ length up
 
-module _ {up head next deep₀ kid₀ : List ℕ} {count : ℕ} (r : Walkable up head next deep₀ kid₀ count) where
-  pub kids-start : Kids up deep₀ kid₀ count
-  kids-start = record { far = r .levels .high; deeps = r .ones; kids = r .twos }
+module _ {up head next rank₀ kid₀ : List ℕ} {count : ℕ} (r : Walkable up head next rank₀ kid₀ count) where
+  pub kids-start : Kids up rank₀ kid₀ count
+  kids-start = record { far = r .levels .high; ranks = r .ones; kids = r .twos }
 
-  module _ {deep kid : List ℕ} {k : ℕ} (i : Kids up deep kid k) where
-    pub kids-ready : 0 < k → Offerable up head next deep kid (k - 1)
-    kids-ready h = record { ground = r .ground; below = omega (arith, i .far); ones = i .deeps; twos = i .kids }
+  module _ {rank kid : List ℕ} {k : ℕ} (i : Kids up rank kid k) where
+    pub kids-ready : 0 < k → Offerable up head next rank kid (k - 1)
+    kids-ready h = record { ground = r .ground; below = omega (arith, i .far); ones = i .ranks; twos = i .kids }
 
-    pub kids-next : {deep′ kid′ : List ℕ} → length deep′ ≡ length deep → length kid′ ≡ length kid → Kids up deep′ kid′ (k - 1)
-    kids-next p q = record { far = omega (arith, i .far); deeps = p ∙ i .deeps; kids = q ∙ i .kids }
+    pub kids-next : {rank′ kid′ : List ℕ} → length rank′ ≡ length rank → length kid′ ≡ length kid → Kids up rank′ kid′ (k - 1)
+    kids-next p q = record { far = omega (arith, i .far); ranks = p ∙ i .ranks; kids = q ∙ i .kids }
 
-    pub kids-deep : length deep ≡ length deep₀
-    kids-deep = i .deeps ∙ sym (r .ones)
+    pub kids-rank : length rank ≡ length rank₀
+    kids-rank = i .ranks ∙ sym (r .ones)
 
     pub kids-kid : length kid ≡ length kid₀
     kids-kid = i .kids ∙ sym (r .twos)
 
   -- for few links every machine is a lane of its own
-  pub alone-lanes : {top : List ℕ} → top ≡ tabulate (length deep₀) (λ v. v) → LanesTo up next kid₀ top count
+  pub alone-lanes : {top : List ℕ} → top ≡ tabulate (length rank₀) (λ v. v) → LanesTo up next kid₀ top count
   alone-lanes {top} e = record {
-    tops = ap length e ∙ length-tabulate (length deep₀) (λ v. v) ∙ r .ones;
-    lane = λ v h p q. highest (ap (λ t. at t v) e ∙ at-tabulate (length deep₀) (λ v. v) v (rw (r .ones) h));
+    tops = ap length e ∙ length-tabulate (length rank₀) (λ v. v) ∙ r .ones;
+    lane = λ v h p q. highest (ap (λ t. at t v) e ∙ at-tabulate (length rank₀) (λ v. v) v (rw (r .ones) h));
   }

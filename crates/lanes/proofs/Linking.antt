@@ -15,7 +15,7 @@ use Rattle.tables.specs.Link.{below}
 use Rattle.tables.specs.Demand1.{SoundTree}
 use Rattle.tables.proofs.Sound.{rooted}
 use Rattle.tables.proofs.Lines.{below-is}
-use Rattle.lanes.specs.Lane.{Top}
+use Rattle.lanes.specs.Lane.{Last}
 
 module _ {up : List ℕ} (s : SoundTree up) where
   -- a child of w on the line of a is the one that is looked for there
@@ -25,16 +25,16 @@ module _ {up : List ℕ} (s : SoundTree up) where
       let (q, v) = below-is s h (join u (one-step r)) o in
       one-child (rooted s) r q u v
 
-module _ {up : List ℕ} (s : SoundTree up) {a w top : ℕ} (h : a < length up) (u : Under (treeOf up) w a) (t : Top up a w top) where
+module _ {up : List ℕ} (s : SoundTree up) {a w last : ℕ} (h : a < length up) (u : Under (treeOf up) w a) (t : Last up a w last) where
   -- a climb came by no machine just where a is w, and else last by the child of w
-  pub top-test : eqb top w ≡ eqb a w
-  top-test = ⊎-elim
+  pub last-test : eqb last w ≡ eqb a w
+  last-test = ⊎-elim
       (λ k. rw (k .0, k .1))
-      (λ k. rw (ne-eqb top w (λ e. no-return (rooted s) (k .0) (rw e stay)), ne-eqb a w (λ e. no-return (rooted s) (k .0) (rw e at (k .1)))))
+      (λ k. rw (ne-eqb last w (λ e. no-return (rooted s) (k .0) (rw e stay)), ne-eqb a w (λ e. no-return (rooted s) (k .0) (rw e at (k .1)))))
       t
 
-  pub top-below : a ≢ w → top ≡ below up w a
-  top-below o = ⊎-elim (λ k. absurd (o (k .0))) (λ k. below-one s h (k .0) (k .1)) t
+  pub last-below : a ≢ w → last ≡ below up w a
+  last-below o = ⊎-elim (λ k. absurd (o (k .0))) (λ k. below-one s h (k .0) (k .1)) t
 
-  pub top-in : top < length up
-  top-in = ⊎-elim (λ k. rw (k .1) (in-tree (rooted s) u h)) (λ k. k .0 .low) t
+  pub last-in : last < length up
+  last-in = ⊎-elim (λ k. rw (k .1) (in-tree (rooted s) u h)) (λ k. k .0 .low) t

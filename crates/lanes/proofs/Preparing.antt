@@ -31,8 +31,8 @@ module _ {up depth batch low head next : List ℕ} (b : Bare up depth batch low 
   depths : length depth ≡ length up
   depths = depth-size up (b .look .depths)
 
-  pub list-ready : Listable depth low′ head next
-  list-ready = record {
+  pub lists-ready : Listable depth low′ head next
+  lists-ready = record {
     sorted = record {
       few = rw depths (b .look .few);
       inside = λ v h. let k : v < length up = rw depths at h in rw (depths, depth-at up (b .look .depths) v k) (soon (b .look .tree) v k);

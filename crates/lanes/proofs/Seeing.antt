@@ -1,5 +1,5 @@
 -- A line is seen from below: at x whole lines are seen, but that the up of a machine seen last may be x itself. An entry is written once, so the
--- climb ends at the first machine that is seen, at the latest at the hub.
+-- climb ends at the first machine that is seen, at the latest at the hub. And behind that: whole lines are seen where every machine is.
 use mathlib.Core.Path.{_≡_, refl, sym, ap, _∙_}
 use mathlib.Core.Bool.{cond}
 use mathlib.Core.List.{List}

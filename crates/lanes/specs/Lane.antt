@@ -48,11 +48,11 @@ pub data Closes (depth kid : List ℕ) (x c y d w c′ d′ : ℕ) : Type 0 wher
   level : at depth x ≡ at depth y → w ≡ x → c′ ≡ c → d′ ≡ d → Closes depth kid x c y d w c′ d′
 
 -- c is the last machine below x on the line of a; none where the climb is at a still, and c is x then
-abbrev pub Top : List ℕ → ℕ → ℕ → ℕ → Type 0
-Top up a x c = ((a ≡ x) × (c ≡ x)) ⊎ (Uplink (treeOf up) c x × Under (treeOf up) c a)
+abbrev pub Last : List ℕ → ℕ → ℕ → ℕ → Type 0
+Last up a x c = ((a ≡ x) × (c ≡ x)) ⊎ (Uplink (treeOf up) c x × Under (treeOf up) c a)
 
 -- the lines of a and b meet at w, and c and d are the highest machines of their arms; w, where an arm is empty
 pub record MetAt (up : List ℕ) (a b w c d : ℕ) : Type 0 where
   pub meets : w ≡ meet up a b
-  pub left : Top up a w c
-  pub right : Top up b w d
+  pub left : Last up a w c
+  pub right : Last up b w d

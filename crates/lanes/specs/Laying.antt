@@ -25,8 +25,8 @@ pub record Levels (up next : List ℕ) (levels : ℕ) : Type 0 where
   pub high : levels ≤ length up
   pub level : (v : ℕ) → v < length up → Listed next v → depthOf up v < levels
 
--- a machine and its up, with an entry for each machine in two tables
-pub record Beside (up one two : List ℕ) (v : ℕ) : Type 0 where
+-- a machine and its up, with two tables of notes
+pub record Noted (up one two : List ℕ) (v : ℕ) : Type 0 where
   pub few : length up ≤ mostMachines
   pub here : v < length up
   pub above : at up v < length up

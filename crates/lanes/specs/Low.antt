@@ -39,7 +39,7 @@ pub record Handed (up low low′ mark mark′ : List ℕ) (v k rise : ℕ) : Typ
   pub lows : low′ ≡ lowered low (at up v) (at low v)
   pub lifted : Lifted mark mark′ v (asked (at low v) k) rise
 
--- what a sweep over the lists takes: on no list nobody knows of a ring
+-- what a sweep over the lists takes: whoever is on no list knows of no ring
 pub record Sweepable (up head next low mark : List ℕ) (count : ℕ) : Type 0 where
   pub ground : Ground up head next
   pub levels : Levels up next count

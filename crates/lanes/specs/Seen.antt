@@ -50,7 +50,7 @@ pub record Lookable (up depth low batch : List ℕ) : Type 0 where
   pub blank : (v : ℕ) → v < length up → at low v ≡ none
   pub accepted : batchVerdict (length up) batch ≡ Sound
 
--- the lines of the first i numbers of a batch are seen, and they reach down to fewer levels than so many
+-- the lines of the first i numbers of a batch are seen, and the machines seen have at most so many levels
 pub record SeenTo (up batch low : List ℕ) (levels i : ℕ) : Type 0 where
   pub far : i ≤ length batch
   pub fresh : Fresh up low
@@ -58,7 +58,7 @@ pub record SeenTo (up batch low : List ℕ) (levels i : ℕ) : Type 0 where
   pub high : levels ≤ length up
   pub level : (x : ℕ) → x < length up → Seen low x → depthOf up x < levels
 
--- every machine has its depth as its entry, and the levels are enough
+-- every machine has its depth as its entry, and there are just so many levels
 pub record SeenEvery (depth low : List ℕ) (levels : ℕ) : Type 0 where
   pub copied : low ≡ depth
   pub level : (v : ℕ) → v < length depth → at depth v < levels

@@ -1,58 +1,70 @@
-// Lanes laid over the machines on lists: a machine and its kid are in one lane. The kid is the child with the deepest machine under it, so a line is cut into
-// few lanes; but which one it is matters to speed alone.
+// Lanes laid over the machines on lists: a machine and its kid are in one lane. A machine has a rank, and its kid is a child of a rank that no other one exceeds; two children of one
+// rank make that of their up greater. So a rank of r takes 2 to the power of r - 1 machines, ranks rise from lane to lane, and a line has at most 13 lanes. But which child the kid is
+// matters to speed alone: nothing is proved of it.
 ghost use mathlib.Core.Path.{_≡_};
-ghost use Prim.Native.Nat.{_+_, _≤_, max};
+ghost use Prim.Native.Nat.{_+_, _≤_};
 ghost use lib.ListN.{length};
 ghost use Rattle.plain.specs.Table.{tabulate};
 ghost use Rattle.tables.specs.Tree.{mostMachines};
-ghost use Rattle.lanes.specs.Laying.{Beside, Walkable, Offerable, TopFor, LayableAt, LanesTo};
+ghost use Rattle.lanes.specs.Laying.{Noted, Walkable, Offerable, TopFor, LayableAt, LanesTo};
 use crate::table::at;
 
-// The greater of two depths.
-fn deeper(a: u16, b: u16) -> u16
-    ensures { λ r. ⌜ r ≡ max a b ⌝ }
-{
-    if a < b { b } else { a }
+// No machine has a greater rank: 4,096 are not enough for it.
+const MOST_RANK: u16 = 13;
+
+// The rank of a machine with no kid is noted as 0, and is 1.
+fn rank_of(noted: u16) -> u16 {
+    if noted == 0 { 1 } else { noted }
 }
 
-// Offers v, at depth k, to its up as its kid: v stays so, where no machine is as deep under another child.
-fn offer(up: &[u16], deep: &mut [u16], kid: &mut [u16], v: usize, k: u16)
-    requires { ⌜ Beside (now up) (now deep) (now kid) v ⌝ }
+// The rank of a machine with a second child of rank r.
+fn raised(r: u16) -> u16 {
+    if r < MOST_RANK { r + 1 } else { r }
+}
+
+// Offers v to its up as its kid.
+fn offer(up: &[u16], rank: &mut [u16], kid: &mut [u16], v: usize)
+    requires { ⌜ Noted (now up) (now rank) (now kid) v ⌝ }
 {
-    let d = deeper(deep[v], k);
+    let r = rank_of(rank[v]);
     let p = at(up, v);
-    if deep[p] < d {
-        deep[p] = d;
+    let q = rank[p];
+    if q == r {
+        rank[p] = raised(r);
+        return;
+    }
+    if q < r {
+        rank[p] = r;
         kid[p] = v as u16;
     }
 }
 
 // Offers the machines of depth k.
-fn offers(up: &[u16], head: &[u16], next: &[u16], deep: &mut [u16], kid: &mut [u16], k: usize)
-    requires { ⌜ Offerable (now up) (now head) (now next) (now deep) (now kid) k ⌝ }
+fn offers(up: &[u16], head: &[u16], next: &[u16], rank: &mut [u16], kid: &mut [u16], k: usize)
+    requires { ⌜ Offerable (now up) (now head) (now next) (now rank) (now kid) k ⌝ }
 {
     let mut x = at(head, k);
     while 0 < x {
         let v = x - 1;
         x = at(next, v);
-        offer(up, deep, kid, v, k as u16);
+        offer(up, rank, kid, v);
     }
 }
 
 // The kids of all machines on lists, from the deepest list to the highest.
-fn kids(up: &[u16], head: &[u16], next: &[u16], levels: usize, deep: &mut [u16], kid: &mut [u16])
-    requires { ⌜ Walkable (now up) (now head) (now next) (now deep) (now kid) levels ⌝ }
+fn kids(up: &[u16], head: &[u16], next: &[u16], levels: usize, rank: &mut [u16], kid: &mut [u16])
+    requires { ⌜ Walkable (now up) (now head) (now next) (now rank) (now kid) levels ⌝ }
 {
     let mut k = levels;
     while 0 < k {
         k -= 1;
-        offers(up, head, next, deep, kid, k);
+        offers(up, head, next, rank, kid, k);
     }
 }
 
 // The top of v's lane: that of its up, where v is the kid there.
 fn top_for(up: &[u16], kid: &[u16], top: &[u16], v: usize) -> u16
-    requires { ⌜ Beside (now up) (now kid) (now top) v ⌝ }
+    requires { ⌜ Noted (now up) (now kid) (now top) v ⌝ }
     ensures { λ r. ⌜ TopFor (now (up .entry)) (now (kid .entry)) (now (top .entry)) v r ⌝ }
 {
     let p = at(up, v);
@@ -103,9 +115,9 @@ fn alone(top: &mut [u16])
 }
 
 // So many links are climbed one by one sooner than lanes are laid.
-const FEW_LINKS: usize = 4;
+const FEW_LINKS: usize = 2;
 
-// Puts every machine on a list into a lane, for so many links. Until the tops are written, their place tells how deep the machines under each are.
+// Puts every machine on a list into a lane, for so many links. Until the tops are written, their place has the ranks.
 pub fn lay(
     up: &[u16],
     head: &[u16],

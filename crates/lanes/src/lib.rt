@@ -1,5 +1,5 @@
-// What a batch of links does, in time near the number of machines and links on every tree: only the lines of the ends are looked at, and the two
-// ends of a link meet by lanes, pieces of lines that are passed at one hop.
+// What a batch of links does, in time near the number of machines and links on every tree: the two ends of a link meet by lanes, pieces of lines that
+// are passed at one hop, and one sweep over the machines on the lines of the ends raises the marks.
 ghost use Rattle.lanes.specs.Whole.{Applicable, Applied, Bare, Looked, Joinable, Joined, Prepared};
 
 mod groups;
@@ -11,7 +11,12 @@ mod meet;
 mod seen;
 mod table;
 
-// Puts every machine on the lines of the ends on the list of its depth. Gives back how many lists there are.
+use checks::MACHINES;
+
+// What a table has for a machine that is not seen, or on no list.
+const NONE: u16 = 65535;
+
+// Puts every machine that the batch can change on the list of its depth. Gives back how many lists there are.
 fn look(
     up: &[u16],
     depth: &[u16],
@@ -73,11 +78,11 @@ pub fn apply(up: &[u16], depth: &[u16], group: &mut [u16], mark: &mut [u8], batc
     ensures { λ r. ⌜ Applied (now (up .entry)) (now (depth .entry)) (now (group .entry)) (now (mark .entry)) (now (batch .entry)) (now (group .exit)) (now (mark .exit)) r ⌝ }
 {
     let n = up.len();
-    let mut low: [u16; 4096] = [65535; 4096];
-    let mut head: [u16; 4096] = [0; 4096];
-    let mut next: [u16; 4096] = [65535; 4096];
-    let mut kid: [u16; 4096] = [0; 4096];
-    let mut top: [u16; 4096] = [0; 4096];
+    let mut low = [NONE; MACHINES];
+    let mut head = [0; MACHINES];
+    let mut next = [NONE; MACHINES];
+    let mut kid = [0; MACHINES];
+    let mut top = [0; MACHINES];
     work(
         up,
         depth,

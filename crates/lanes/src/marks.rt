@@ -59,7 +59,14 @@ fn hand_up(up: &[u16], low: &mut [u16], mark: &mut [u8], v: usize, k: usize) -> 
 }
 
 // The machines of depth k. Gives back by how much their marks rose.
-fn sweep_level(up: &[u16], head: &[u16], next: &[u16], low: &mut [u16], mark: &mut [u8], k: usize) -> usize
+fn sweep_level(
+    up: &[u16],
+    head: &[u16],
+    next: &[u16],
+    low: &mut [u16],
+    mark: &mut [u8],
+    k: usize,
+) -> usize
     requires { ⌜ SweepableAt (now up) (now head) (now next) (now low) (now mark) k ⌝ }
     ensures { λ r. ⌜ LevelSwept (now (up .entry)) (now (next .entry)) (now (low .entry)) (now (low .exit)) (now (mark .entry)) (now (mark .exit)) k r ⌝ }
 {
@@ -74,7 +81,14 @@ fn sweep_level(up: &[u16], head: &[u16], next: &[u16], low: &mut [u16], mark: &m
 }
 
 // Every machine on lists, from the deepest list to the highest. Gives back by how much the marks rose.
-pub fn settle(up: &[u16], head: &[u16], next: &[u16], levels: usize, low: &mut [u16], mark: &mut [u8]) -> usize
+pub fn settle(
+    up: &[u16],
+    head: &[u16],
+    next: &[u16],
+    levels: usize,
+    low: &mut [u16],
+    mark: &mut [u8],
+) -> usize
     requires { ⌜ Sweepable (now up) (now head) (now next) (now low) (now mark) levels ⌝ }
     ensures { λ r. ⌜ Swept (now (up .entry)) (now (next .entry)) (now (low .entry)) (now (mark .entry)) (now (mark .exit)) r ⌝ }
 {

@@ -60,12 +60,15 @@ fn see_every(depth: &[u16], low: &mut [u16]) -> usize
     levels
 }
 
-// The machines on the lines of a batch's ends, or all, where there are so many links that most machines are: that is sooner done.
+// Where a batch has an end for so many machines, most machines are on a line.
+const MACHINES_AN_END: usize = 4;
+
+// The machines on the lines of a batch's ends, or all, where most are: that is sooner done.
 pub fn see_all(up: &[u16], depth: &[u16], low: &mut [u16], batch: &[u16]) -> usize
     requires { ⌜ Lookable (now up) (now depth) (now low) (now batch) ⌝ }
     ensures { λ r. ⌜ SeenTo (now (up .entry)) (now (batch .entry)) (now (low .exit)) r (length (now (batch .entry))) ⌝ }
 {
-    if batch.len() < up.len() / 4 {
+    if batch.len() < up.len() / MACHINES_AN_END {
         return see_ends(up, depth, low, batch);
     }
     see_every(depth, low)

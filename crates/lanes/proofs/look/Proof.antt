@@ -1,6 +1,6 @@
 -- `look` meets its contract: the machines seen on the lines of the ends are those on the lists, and the lists by the table are lists by depth.
 use borrow.Author.Needs.{needs}
-use Rattle.lanes.proofs.Preparing.{list-ready, looked}
+use Rattle.lanes.proofs.Preparing.{lists-ready, looked}
 use Rattle.lanes.proofs.look.Statement.{statement}
 use Rattle.lanes.proofs.look.Tie as tie
 
@@ -9,7 +9,7 @@ look-spec =
     tie.close
     (tie.spec
     (λ c κs. search needs)
-    (λ c κs. search list-ready)
+    (λ c κs. search lists-ready)
     (λ c. search needs)
     (λ c. search needs)
     (λ c. search needs)

@@ -1,14 +1,14 @@
 -- `lay::offers` keeps inside its tables: the walk of the list goes down in number.
 use borrow.Author.Needs.{needs}
-use Rattle.lanes.proofs.Laying.{Offering, offer-in, offer-few, offer-start, offer-next-in, offer-ready, offer-less, offer-next, same-deep, same-kid}
+use Rattle.lanes.proofs.Laying.{Offering, offer-in, offer-start, offer-next-in, offer-ready, offer-less, offer-next, same-rank, same-kid}
 use Rattle.lanes.proofs.lay.offers.Statement.{statement}
 use Rattle.lanes.proofs.lay.offers.Tie as tie
 
 abbrev Inv-loop : tie.InvT-loop
-Inv-loop up head next deep₀ kid₀ k x₀ deep kid x = Offering up next deep kid k x
+Inv-loop up head next rank₀ kid₀ k x₀ rank kid x = Offering up next rank kid k x
 
 abbrev μ-loop : tie.MeasureT-loop
-μ-loop up head next deep₀ kid₀ k x₀ deep kid x = x
+μ-loop up head next rank₀ kid₀ k x₀ rank kid x = x
 
 pub offers-spec : {M : Type 1} → statement M
 offers-spec =
@@ -20,10 +20,9 @@ offers-spec =
     (λ c. search offer-start)
     (λ c. search needs)
     (λ c κs. search offer-next-in)
-    (λ c. search (offer-few, needs))
     (λ c κs. search offer-ready)
     (λ c. search offer-less)
     (λ c. search offer-next)
-    (λ c. search same-deep)
+    (λ c. search same-rank)
     (λ c. search same-kid)
     (λ c. search needs))
