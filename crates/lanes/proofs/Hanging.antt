@@ -20,7 +20,7 @@ use Rattle.tables.specs.Batch.{mostLinks, pairs}
 use Rattle.tables.proofs.Sound.{rooted}
 use Rattle.tables.proofs.Lines.{meets}
 use Rattle.tables.specs.Links.{Good}
-use Rattle.lanes.proofs.Reading.{depth-size, depth-at}
+use Rattle.tables.proofs.Reading.{depth-size, depth-at}
 use Rattle.lanes.proofs.Linking.{last-test, last-below, last-in}
 use Rattle.lanes.proofs.Numbers.{even, in-pairs, link-good}
 use Rattle.lanes.specs.Lane.{MetAt}

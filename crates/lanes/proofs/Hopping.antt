@@ -18,7 +18,7 @@ use Rattle.tables.specs.Link.{meet}
 use Rattle.tables.specs.Demand1.{SoundTree}
 use Rattle.tables.proofs.Sound.{rooted}
 use Rattle.tables.proofs.Lines.{meets}
-use Rattle.lanes.proofs.Reading.{depth-size, depth-at}
+use Rattle.tables.proofs.Reading.{depth-size, depth-at}
 use Rattle.lanes.specs.Lane.{Laned, Hops, Stand, Closes, left-higher, right-higher, level, Last, MetAt}
 use Rattle.lanes.proofs.InLanes.{foot, line-in, top-over, lane-same, lane-kid, lane-line, top-self}
 

@@ -21,7 +21,7 @@ use Rattle.lanes.specs.Forest.{Forest, Flattened}
 use Rattle.lanes.specs.Low.{Sweepable}
 use Rattle.lanes.specs.Hung.{groupings, Source, Batched, HungAll}
 use Rattle.lanes.specs.Whole.{Named, Applicable, Bare, Looked, Joinable, Joined, Prepared}
-use Rattle.lanes.proofs.Reading.{depth-size, depth-at}
+use Rattle.tables.proofs.Reading.{depth-size, depth-at}
 use Rattle.lanes.proofs.Numbers.{in-pairs, number-in}
 use Rattle.lanes.proofs.Listing.{lists-by}
 use Rattle.lanes.proofs.Laying.{laned}

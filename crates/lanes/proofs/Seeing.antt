@@ -19,7 +19,7 @@ use Rattle.tables.specs.Tree.{mostMachines, hub, depthOf}
 use Rattle.tables.specs.AsTree.{treeOf}
 use Rattle.tables.proofs.Sound.{soon, rooted}
 use Rattle.lanes.specs.Seen.{none, Seen, Seeable, SeenFrom, Lookable, SeenTo, SeenEvery}
-use Rattle.lanes.proofs.Reading.{depth-size, depth-at}
+use Rattle.tables.proofs.Reading.{depth-size, depth-at}
 use Rattle.lanes.proofs.Numbers.{number-in}
 
 -- one while x is not seen

@@ -14,7 +14,7 @@ mod table;
 use checks::MACHINES;
 
 // What a table has for a machine that is not seen, or on no list.
-const NONE: u16 = 65535;
+const BLANK: u16 = 65535;
 
 // Puts every machine that the batch can change on the list of its depth. Gives back how many lists there are.
 fn look(
@@ -78,9 +78,9 @@ pub fn apply(up: &[u16], depth: &[u16], group: &mut [u16], mark: &mut [u8], batc
     ensures { λ r. ⌜ Applied (now (up .entry)) (now (depth .entry)) (now (group .entry)) (now (mark .entry)) (now (batch .entry)) (now (group .exit)) (now (mark .exit)) r ⌝ }
 {
     let n = up.len();
-    let mut low = [NONE; MACHINES];
+    let mut low = [BLANK; MACHINES];
     let mut head = [0; MACHINES];
-    let mut next = [NONE; MACHINES];
+    let mut next = [BLANK; MACHINES];
     let mut kid = [0; MACHINES];
     let mut top = [0; MACHINES];
     work(

@@ -6,7 +6,7 @@ ghost use Rattle.lanes.specs.Seen.{Seeable, SeenFrom, Lookable, SeenTo, 
 use crate::table::at;
 
 // The entry of a machine that is not seen.
-pub const NONE: usize = 65535;
+pub const NONE: usize = crate::BLANK as usize;
 
 // From v up to the first machine that is seen. A machine that is seen has its depth as its entry.
 fn see(up: &[u16], depth: &[u16], low: &mut [u16], v: usize)

@@ -10,7 +10,6 @@ use lib.ListN.{length}
 use lib.Dec.{eqb}
 use borrow.Author.Tests.{eq-eqb, ne-eqb, not-false}
 use Rattle.plain.proofs.Says.{says-if, Says, says-map, says-eq, says-le, says-lt, says-not, says-and, says-unless}
-use Rattle.plain.proofs.Tabulate.{at-tabulate}
 use Rattle.plain.specs.Search.{least}
 use Rattle.plain.specs.Table.{at}
 use Rattle.graph.specs.Walk.{Relation, stay, step}
@@ -27,6 +26,7 @@ use Rattle.tables.specs.AsTree.{treeOf}
 use Rattle.tables.specs.Verdict.{Fault, Sound}
 use Rattle.tables.specs.Demand1.{SoundTree}
 use Rattle.tables.proofs.Verdicts.{none-refused, refuse-none}
+use Rattle.tables.proofs.Reading.{depth-at}
 use Rattle.tables.proofs.Sound.{depth-hub, depth-up}
 use Rattle.tables.proofs.Told.{Told, group-name}
 
@@ -68,8 +68,8 @@ module _ {up : List ℕ} {L : Relation} {t : Tables} (s : SoundTree up) (N : Net
   pub told-kept : (v : ℕ) → v < length up → Kept up t v
   told-kept v h = record {
     depth = dite (ℕ-discrete v (hub up))
-        (λ e. rw (eq-eqb v (hub up) e) (depth-at v h ∙ ap (depthOf up) e ∙ depth-hub s))
-        (λ o. rw (ne-eqb v (hub up) o) (depth-at v h ∙ depth-up s v h o ∙ ap suc (sym (depth-at (at up v) (s .inside v h)))));
+        (λ e. rw (eq-eqb v (hub up) e) (depth-at up (k .depths) v h ∙ ap (depthOf up) e ∙ depth-hub s))
+        (λ o. rw (ne-eqb v (hub up) o) (depth-at up (k .depths) v h ∙ depth-up s v h o ∙ ap suc (sym (depth-at up (k .depths) (at up v) (s .inside v h)))));
     top = top-is v h;
     small = k .marked .small v h;
     group = λ o.
@@ -85,9 +85,6 @@ module _ {up : List ℕ} {L : Relation} {t : Tables} (s : SoundTree up) (N : Net
         let c = carried-rings _ _ _ _ r (k .marked .carried v h .0 e) in
         (rings-other N c, k .marked .ringed (at up v) (s .inside v h) .1 c);
   }
-    where
-      depth-at : (x : ℕ) → x < length up → at (t .depth) x ≡ depthOf up x
-      depth-at x i = ap (λ d. at d x) (k .depths) ∙ at-tabulate (length up) (depthOf up) x i
 
 pub kept-sound : (up : List ℕ) (t : Tables) → ((v : ℕ) → v < length up → Kept up t v) → rulesVerdict up t ≡ Sound
 unfolding rulesVerdict breaks

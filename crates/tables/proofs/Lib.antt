@@ -11,6 +11,7 @@ pub mod Naming
 pub mod Standing
 pub mod Links
 pub mod Histories
+pub mod Reading
 pub mod Kept
 pub mod Wanted
 pub mod Complete

@@ -3,7 +3,7 @@ use borrow.Author.Needs.{needs}
 use Prim.Native.Nat.{_+_}
 use Rattle.tables.specs.Tree.{depthOf}
 use Rattle.tables.specs.Link.{meet}
-use Rattle.lanes.proofs.Reading.{depth-size}
+use Rattle.tables.proofs.Reading.{depth-size}
 use Rattle.lanes.proofs.Hopping.{Hopping, start, left-in, right-in, left-up, right-up, close-ready, next-left, less-left, next-right, less-right, end}
 use Rattle.lanes.proofs.meet.meet.Statement.{statement}
 use Rattle.lanes.proofs.meet.meet.Tie as tie
