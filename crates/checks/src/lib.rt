@@ -71,9 +71,9 @@ fn stray_first(up: &[u16], broken: Verdict) -> Verdict
     requires { ⌜ length (now up) ≤ mostMachines ⌝ }
     ensures { λ r. ⌜ r ≡ strayFirst (now (up .entry)) broken ⌝ }
 {
-    let grown = shape(up);
-    let Verdict::Sound = grown else {
-        return grown;
+    let reached = shape(up);
+    let Verdict::Sound = reached else {
+        return reached;
     };
     broken
 }
