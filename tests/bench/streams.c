@@ -1,6 +1,6 @@
 /* streams SHAPE MACHINES LINKS FORM PLANS: prints a stream of plans, as `labels` reads it: trees of a shape, each with one batch
-   of links between any two machines. FORM is what of a plan stands in the stream: `tree`, `batch` (and the tree) or `report`
-   (and both). Without words it prints the names of the shapes. All is by chance and yet the same in every run: a plan has the
+   of links between any two machines. FORM is what of a plan stands in the stream: `tree`, `batch` (and the tree), `report`
+   (and both), or `refused`: the tree and a batch of one link from a machine to itself, which the last check of Add refuses. Without words it prints the names of the shapes. All is by chance and yet the same in every run: a plan has the
    same tree in every form and with any number of links, and the same links in every form. */
 #include <stdint.h>
 #include <stdio.h>
@@ -9,7 +9,7 @@
 
 enum { MOST_MACHINES = 4096, MOST_BYTES = 16384 };
 
-enum tree { RANDOM, PATH, STAR, CATERPILLAR, DEEP, COMB };
+enum tree { RANDOM, PATH, STAR, CATERPILLAR, DEEP, COMB, SLANTED_COMB };
 
 /* How the machines of a tree are numbered: from the hub on, towards the hub, or by chance. */
 enum numbers { RISING, FALLING, MIXED };
@@ -27,13 +27,14 @@ static const struct shape {
     {"deep-tree", DEEP, RISING},
     {"comb", COMB, RISING},
     {"comb-against", COMB, FALLING},
+    {"slanted-comb", SLANTED_COMB, FALLING},
 };
 
 enum { SHAPES = sizeof shapes / sizeof shapes[0] };
 
-enum form { TREE, BATCH, REPORT, FORMS };
+enum form { TREE, REFUSED, BATCH, REPORT, FORMS };
 
-static const char *const forms[FORMS] = {"tree", "batch", "report"};
+static const char *const forms[FORMS] = {"tree", "refused", "batch", "report"};
 
 /* The state of a splitmix generator. */
 static uint64_t chance;
@@ -44,6 +45,20 @@ static unsigned below(unsigned bound)
     z = (z ^ z >> 30) * 0xbf58476d1ce4e5b9;
     z = (z ^ z >> 27) * 0x94d049bb133111eb;
     return (z ^ z >> 31) % bound;
+}
+
+/* The up of machine v of a comb whose teeth all end at one depth: each is one machine shorter than the one before. */
+static unsigned slanted(unsigned v, unsigned n)
+{
+    unsigned tooth = 0, back = 0, before = 0;
+
+    while ((tooth + 1) * (tooth + 2) / 2 < n)
+        tooth++;
+    for (; v > back + tooth; tooth--) {
+        before = back;
+        back += tooth + 1;
+    }
+    return v == back ? before : v - 1;
 }
 
 /* The up of machine v, which is not the hub, where n machines are numbered from the hub on. */
@@ -60,6 +75,8 @@ static unsigned up_of(enum tree tree, unsigned v, unsigned n)
         return v - 1 - below(v < 3 ? v : 3);
     case COMB: /* every 64th machine is one of the back, and the 63 behind it are its tooth */
         return v % 64 == 0 ? v - 64 : v - 1;
+    case SLANTED_COMB:
+        return slanted(v, n);
     default:
         return below(v);
     }
@@ -90,12 +107,18 @@ static void put_number(unsigned value)
 
 static void put_plan(const uint16_t up[], unsigned n, unsigned links, enum form form)
 {
-    put_number(3 + 3 * n + (form >= BATCH ? 5 * links + 1 : 0) + (form >= REPORT));
+    put_number(3 + 3 * n + (form == REFUSED ? 6 : form >= BATCH ? 5 * links + 1 : 0) + (form >= REPORT));
     putchar(1);
     put_number(n);
     for (unsigned v = 0; v < n; v++) {
         putchar(2);
         put_number(up[v]);
+    }
+    if (form == REFUSED) {
+        putchar(3);
+        put_number(0);
+        put_number(0);
+        putchar(4);
     }
     if (form >= BATCH) {
         for (unsigned i = 0; i < links; i++) {

@@ -18,7 +18,7 @@ fn rank_of(noted: u16) -> u16 {
 }
 
 // The rank of a machine with a second child of rank r.
-fn raised(r: u16) -> u16 {
+fn next_rank(r: u16) -> u16 {
     if r < MOST_RANK { r + 1 } else { r }
 }
 
@@ -30,7 +30,7 @@ fn offer(up: &[u16], rank: &mut [u16], kid: &mut [u16], v: usize)
     let p = at(up, v);
     let q = rank[p];
     if q == r {
-        rank[p] = raised(r);
+        rank[p] = next_rank(r);
         return;
     }
     if q < r {
