@@ -9,6 +9,7 @@ pub mod Linking
 pub mod Uniting
 pub mod Asking
 pub mod Sweeping
+pub mod Settling
 pub mod Hanging
 pub mod Preparing
 pub mod Wholes

@@ -1,15 +1,12 @@
 -- Lists by depth, walked: an entry leads to a machine on the list, the next one is less, and a walk passes every machine, since no list leaves one out.
 use mathlib.Core.Path.{_≡_, refl, sym, _∙_}
 use mathlib.Core.List.{List}
-use mathlib.Core.Logic.{_≢_, _⊎_, inl, inr, dite}
-use Prim.Native.Nat.{ℕ, suc, _+_, _*_, _-_, _<_, _≤_}
+use mathlib.Core.Logic.{_⊎_, inl, inr, dite}
+use Prim.Native.Nat.{ℕ, suc, _-_, _<_, _≤_}
 use native.Mathlib.Decide.{ℕ-discrete, decLt}
 use native.Mathlib.Omega.{arith}
 use Rattle.plain.specs.Table.{at}
-use lib.ListN.{length}
-use Rattle.tables.specs.Tree.{depthOf}
 use Rattle.lanes.specs.Depths.{Listed, Lists, OnList, Past}
-use Rattle.lanes.specs.Laying.{Ground, Levels}
 
 module _ {n : ℕ} {d : ℕ → ℕ} {head next : List ℕ} (l : Lists n d n head next) where
   pub on-head : (k : ℕ) → OnList n d next k (at head k)

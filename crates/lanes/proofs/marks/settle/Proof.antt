@@ -1,7 +1,6 @@
 -- `marks::settle` meets its contract: the lists from depth `k` on are swept.
 use borrow.Author.Needs.{needs}
-use native.Mathlib.Omega.{arith}
-use Rattle.lanes.proofs.Sweeping.{Settling, start, level-ready, rise-small, settle-next, end}
+use Rattle.lanes.proofs.Settling.{Settling, start, level-ready, rise-small, settle-next, end}
 use Rattle.lanes.proofs.marks.settle.Statement.{statement}
 use Rattle.lanes.proofs.marks.settle.Tie as tie
 

@@ -1,7 +1,7 @@
 -- `marks::sweep_level` meets its contract: whatever was swept before, the machines that the walk came by are swept too.
 use native.Mathlib.Omega.{arith}
 use borrow.Author.Needs.{needs}
-use Rattle.lanes.proofs.Sweeping.{LevelSweeping, level-in, level-start, next-in, hand-ready, level-small, level-less, level-next, level-end}
+use Rattle.lanes.proofs.Settling.{LevelSweeping, level-in, level-start, next-in, hand-ready, level-small, level-less, level-next, level-end}
 use Rattle.lanes.proofs.marks.sweep_level.Statement.{statement}
 use Rattle.lanes.proofs.marks.sweep_level.Tie as tie
 
