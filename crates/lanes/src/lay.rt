@@ -1,6 +1,5 @@
-// Lanes laid over the machines on lists: a machine and its kid are in one lane. A machine has a rank, and its kid is a child of a rank that no other one exceeds; two children of one
-// rank make that of their up greater. So a rank of r takes 2 to the power of r - 1 machines, ranks rise from lane to lane, and a line has at most 13 lanes. But which child the kid is
-// matters to speed alone: nothing is proved of it.
+// Lanes laid over the machines on lists: a machine and its kid are in one lane. A machine's rank is no less than its kid's and greater than that of any other child; a rank of r takes
+// 2 to the power of r - 1 machines. So ranks rise from lane to lane, and a line has at most 13 lanes. But which child the kid is matters to speed alone: nothing is proved of it.
 ghost use mathlib.Core.Path.{_≡_};
 ghost use Prim.Native.Nat.{_+_, _≤_};
 ghost use lib.ListN.{length};
@@ -17,7 +16,7 @@ fn rank_of(noted: u16) -> u16 {
     if noted == 0 { 1 } else { noted }
 }
 
-// The rank of a machine with a second child of rank r.
+// The rank of a machine of rank r that has another child of rank r.
 fn next_rank(r: u16) -> u16 {
     if r < MOST_RANK { r + 1 } else { r }
 }
