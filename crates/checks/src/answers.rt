@@ -24,6 +24,8 @@ fn number(why: Fault) -> u16
         Fault::Unknown => 11,
         Fault::Misplaced => 12,
         Fault::Long => 13,
+        Fault::Short => 14,
+        Fault::Parts => 27,
     }
 }
 

@@ -5,3 +5,4 @@ pub mod ReadCalls
 pub mod ReadNext
 pub mod Stepping
 pub mod Holding
+pub mod Encoded

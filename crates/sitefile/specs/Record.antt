@@ -1,7 +1,7 @@
 -- Records of the site file: one byte of kind, then a body whose length the kind fixes. Numbers are little-endian, 16 bits.
 use mathlib.Core.Bool.{Bool, cond, _&&_}
-use mathlib.Core.List.{List, []}
-use Prim.Native.Nat.{ℕ, _+_, _*_}
+use mathlib.Core.List.{List, [], _∷_}
+use Prim.Native.Nat.{ℕ, _+_, _*_, _/_, _%_}
 use lib.ListN.{length, take, drop}
 use lib.Dec.{leb, ltb, eqb}
 use Rattle.plain.specs.Table.{at}
@@ -25,3 +25,12 @@ bodyOf file place = cond (whole file place) (take (bodyLength (at file place)) (
 -- number i of a body
 abbrev pub word : List ℕ → ℕ → ℕ
 word body i = at body (2 * i) + 256 * at body (2 * i + 1)
+
+-- numbers as a body has them
+unfoldable pub words : List ℕ → List ℕ
+words [] = []
+words (n ∷ numbers) = n % 256 ∷ n / 256 ∷ words numbers
+
+-- the record of this kind with these numbers
+abbrev pub recordOf : ℕ → List ℕ → List ℕ
+recordOf kind numbers = kind ∷ words numbers

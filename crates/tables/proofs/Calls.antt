@@ -77,14 +77,17 @@ adds-more : (up : List ℕ) (h : History) → Lived up h → (batch : List ℕ) 
 adds-more up h l batch =
     rw (only-links .leave up h, only-links .leave up (h ++ (batch ∷ [])), links-append h batch) (adds up (links h) (only-links .stand up h l) batch)
 
+-- an accepted batch more
+pub lived-more : {up : List ℕ} {h : History} (batch : List ℕ) → Lived up h → batchVerdict (length up) batch ≡ Sound → Lived up (h ++ (batch ∷ []))
+lived-more {h = h} batch l e = record { tree = l .tree; batches = λ b i. ⊎-elim (l .batches b) (λ j. let q : b ≡ batch = single j in rw q e) (parts h i) }
+
 all-added : (up : List ℕ) (h g : History) → Lived up g → Accepted (length up) h → added up h (tables up g) ≡ tables up (g ++ h)
 unfolding added
 all-added up [] g l a = ap (tables up) (sym (append-nil g))
 all-added up (batch ∷ h) g l a =
     let e = a batch (here refl) in
     let k : addOf up batch (tables up g) .lent ≡ tables up (g ++ (batch ∷ [])) = ap (λ r. r .lent) (adds-more up g l batch .accepted e) in
-    let m : Lived up (g ++ (batch ∷ [])) = record { tree = l .tree; batches = λ b i. ⊎-elim (l .batches b) (λ j. let q : b ≡ batch = single j in rw q e) (parts g i) } in
-    ap (added up h) k ∙ all-added up h (g ++ (batch ∷ [])) m (λ b i. a b (there i)) ∙ ap (tables up) (append-assoc g (batch ∷ []) h)
+    ap (added up h) k ∙ all-added up h (g ++ (batch ∷ [])) (lived-more batch l e) (λ b i. a b (there i)) ∙ ap (tables up) (append-assoc g (batch ∷ []) h)
 
 pub calls-live : CallsLive
 calls-live = record {

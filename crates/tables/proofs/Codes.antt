@@ -1,4 +1,4 @@
--- The numbers of the faults: 1 to 13, none is 0, so an answer's code tells whether it was refused; and a batch is not refused with 6.
+-- The numbers of the faults: 1 to 14 and 27, none is 0, so an answer's code tells whether it was refused; and a batch is not refused with 6.
 use mathlib.Core.Path.{_≡_, refl}
 use mathlib.Core.Bool.{_&&_}
 use mathlib.Core.List.{List}
@@ -29,6 +29,8 @@ numbered Fault.Cut e = omega arith
 numbered Fault.Unknown e = omega arith
 numbered Fault.Misplaced e = omega arith
 numbered Fault.Long e = omega arith
+numbered Fault.Short e = omega arith
+numbered Fault.Parts e = omega arith
 
 pub codes : Codes
 unfolding faults

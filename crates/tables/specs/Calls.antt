@@ -38,10 +38,10 @@ pub record CallsLive : Type 0 where
   pub with-links : (up : List ℕ) (l : Cables) → Stands up l → (batch : List ℕ) → Adds up batch (tablesWith up l) (tablesWith up (l ++ pairs batch))
   pub all-calls : (up : List ℕ) (h : History) (t : Tables) → Lived up h → lengthsVerdict up t ≡ Sound → ran up h t ≡ tables up h
 
--- the codes are 1 to 13; all that is done has 0, and no fault has
+-- the codes are 1 to 14 and 27; all that is done has 0, and no fault has
 pub record Codes : Type 0 where
   pub zero : (value : ℕ) → done value .code ≡ 0
-  pub in-order : map numberOf faults ≡ 1 ∷ 2 ∷ 3 ∷ 4 ∷ 5 ∷ 6 ∷ 7 ∷ 8 ∷ 9 ∷ 10 ∷ 11 ∷ 12 ∷ 13 ∷ []
+  pub in-order : map numberOf faults ≡ 1 ∷ 2 ∷ 3 ∷ 4 ∷ 5 ∷ 6 ∷ 7 ∷ 8 ∷ 9 ∷ 10 ∷ 11 ∷ 12 ∷ 13 ∷ 14 ∷ 27 ∷ []
   pub not-done : (why : Fault) → numberOf why ≢ 0
 
 -- 1 to 4,096 machines; an even number of numbers, at most 2,048. A refusal's value is the length that is refused

@@ -24,12 +24,14 @@ numberOf Fault.Cut = 10
 numberOf Fault.Unknown = 11
 numberOf Fault.Misplaced = 12
 numberOf Fault.Long = 13
+numberOf Fault.Short = 14
+numberOf Fault.Parts = 27
 
 -- all of them, in the order of their numbers
 unfoldable pub faults : List Fault
 faults =
     Fault.Size ∷ Fault.Slice ∷ Fault.Entry ∷ Fault.Hubs ∷ Fault.Stray ∷ Fault.Rule ∷ Fault.Length ∷ Fault.End ∷ Fault.Loop
-    ∷ Fault.Cut ∷ Fault.Unknown ∷ Fault.Misplaced ∷ Fault.Long ∷ []
+    ∷ Fault.Cut ∷ Fault.Unknown ∷ Fault.Misplaced ∷ Fault.Long ∷ Fault.Short ∷ Fault.Parts ∷ []
 
 -- checks that run in this order: the first refusal
 unfoldable pub checks : List Verdict → Verdict

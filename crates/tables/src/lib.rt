@@ -1,7 +1,7 @@
 // The definitions and theorems of a site's tables. Why something is refused, what a check says and what a call answers are types that the
 // definitions and the code share; there is no function here.
 
-// Why something is refused, in the order of the codes: 1 to 9 by the calls, 10 to 13 by the site file.
+// Why something is refused, in the order of the codes: 1 to 9 by the calls of a site, 10 to 13 by the site file, 14 and 27 by its writer.
 pub enum Fault {
     // There is no machine, or there are too many.
     Size,
@@ -29,6 +29,10 @@ pub enum Fault {
     Misplaced,
     // The file is too long.
     Long,
+    // The buffer is shorter than the file.
+    Short,
+    // The batches' lengths don't go with the reports, or don't add up to the links.
+    Parts,
 }
 
 // What a check says: all is well, or why it is refused, and where.

@@ -1,0 +1,5 @@
+pub mod Plan
+pub mod Written
+pub mod Said
+pub mod Statements
+pub mod Filling
