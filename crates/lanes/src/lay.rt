@@ -1,5 +1,5 @@
 // Lanes laid over the machines on lists: a machine and its kid are in one lane. A machine's rank is no less than its kid's and greater than that of any other child; a rank of r takes
-// 2 to the power of r - 1 machines. So ranks rise from lane to lane, and a line has at most 13 lanes. But which child the kid is matters to speed alone: nothing is proved of it.
+// 2 to the power of r - 1 machines. So ranks rise from lane to lane, and a line has at most 13 lanes, where links are not few. But which child the kid is matters to speed alone: nothing is proved of it.
 ghost use mathlib.Core.Path.{_≡_};
 ghost use Prim.Native.Nat.{_+_, _≤_};
 ghost use lib.ListN.{length};
