@@ -16,7 +16,7 @@ use Rattle.tables.specs.Demand1.{SoundTree}
 use Rattle.tables.proofs.Sound.{rooted}
 use Rattle.lanes.specs.Depths.{Listed, OnList, Past}
 use Rattle.lanes.specs.Lane.{InLane, highest, along, Laned}
-use Rattle.lanes.specs.Laying.{Ground, Levels, Noted, Offerable, Walkable, TopFor, itself, as-kid, LanesTo, LayableAt}
+use Rattle.lanes.specs.Laying.{Ground, Levels, Noted, ListAt, Walkable, TopFor, itself, as-kid, LanesTo, LayableAt}
 use Rattle.lanes.proofs.Walking.{on-head, none-past, here-in, here-depth, on-next, next-less, past-more}
 
 -- a top that is written at v is no matter to a machine that is no ranker
@@ -117,7 +117,7 @@ pub record Offering (up next rank kid : List ℕ) (k x : ℕ) : Type 0 where
   pub ranks : length rank ≡ length up
   pub kids : length kid ≡ length up
 
-module _ {up head next rank₀ kid₀ : List ℕ} {k : ℕ} (r : Offerable up head next rank₀ kid₀ k) where
+module _ {up head next rank₀ kid₀ : List ℕ} {k : ℕ} (r : ListAt up head next rank₀ kid₀ k) where
   pub offer-in : k < length head
   offer-in = rw (r .ground .lists .heads) (r .below)
 
@@ -158,7 +158,7 @@ module _ {up head next rank₀ kid₀ : List ℕ} {count : ℕ} (r : Walkable up
   kids-start = record { far = r .levels .high; ranks = r .ones; kids = r .twos }
 
   module _ {rank kid : List ℕ} {k : ℕ} (i : Kids up rank kid k) where
-    pub kids-ready : 0 < k → Offerable up head next rank kid (k - 1)
+    pub kids-ready : 0 < k → ListAt up head next rank kid (k - 1)
     kids-ready h = record { ground = r .ground; below = omega (arith, i .far); ones = i .ranks; twos = i .kids }
 
     pub kids-next : {rank′ kid′ : List ℕ} → length rank′ ≡ length rank → length kid′ ≡ length kid → Kids up rank′ kid′ (k - 1)
