@@ -14,11 +14,10 @@ use Rattle.tables.specs.Tree.{depthOf}
 use Rattle.tables.specs.AsTree.{treeOf}
 use Rattle.lanes.specs.Seen.{none}
 use Rattle.lanes.specs.Depths.{Listed, OnList}
-use Rattle.lanes.specs.Laying.{Noted, ListAt}
+use Rattle.lanes.specs.Laying.{ListAt}
 use Rattle.lanes.specs.Low.{Handed, Sweepable, Swept, Passed, Sweeping, SweptFrom, LevelSwept}
-use Rattle.lanes.proofs.Walking.{on-head, head-few, here-in, on-next, next-less}
+use Rattle.lanes.proofs.Walking.{on-head, head-few, on-next, less}
 use Rattle.lanes.proofs.Asking.{ask-none, asked-two}
-use Rattle.plain.proofs.Putting.{here}
 use Rattle.lanes.proofs.Sweeping.{turned, one-more}
 
 -- the walk of a level stands at x; it came from the tables low₁ and mark₁, and the marks rose by s on it so far
@@ -36,9 +35,6 @@ pub record Settling (up next low₀ mark₀ low mark : List ℕ) (count k rise :
 
 -- a level: from its head on, whatever was swept before
 module _ {up head next low₁ mark₁ : List ℕ} {k : ℕ} (r : ListAt up head next low₁ mark₁ k) where
-  pub level-in : k < length head
-  level-in = rw (r .ground .lists .heads) (r .below)
-
   pub level-start : {x : ℕ} → x ≡ at head k → LevelSweeping up next low₁ mark₁ low₁ mark₁ k x 0
   level-start {x} e = rw e (record {
     on = on-head (r .ground .lists) k;
@@ -51,39 +47,26 @@ module _ {up head next low₁ mark₁ : List ℕ} {k : ℕ} (r : ListAt up head 
   })
 
   module _ {low mark : List ℕ} {x s : ℕ} (i : LevelSweeping up next low₁ mark₁ low mark k x s) where
-    module _ (some : 0 < x) where
-      here-up : x - 1 < length up
-      here-up = here-in (r .ground .lists) (i .on) some
+    module _ (some : 0 < x) {low′ mark′ : List ℕ} {t : ℕ} (n : Handed up low low′ mark mark′ (x - 1) k t) where
+      two : t ≤ 2
+      two = omega (arith, n .lifted .is, asked-two (at low (x - 1)) k)
 
-      pub next-in : x - 1 < length next
-      next-in = rw (r .ground .lists .nexts) here-up
+      pub level-small : s + t ≤ 2 * 4096
+      level-small = omega (arith, i .swept .small, r .ground .few, two)
 
-      pub hand-ready : Noted up low mark (x - 1)
-      hand-ready = record { few = r .ground .few; here = here-up; above = r .ground .tree .inside (x - 1) here-up; ones = i .lows; twos = i .marks }
-
-      pub level-less : {y : ℕ} → y ≡ at next (x - 1) → y < x
-      level-less = next-less (r .ground .lists) (i .on) some
-
-      module _ {low′ mark′ : List ℕ} {t : ℕ} (n : Handed up low low′ mark mark′ (x - 1) k t) where
-        two : t ≤ 2
-        two = omega (arith, n .lifted .is, asked-two (at low (x - 1)) k)
-
-        pub level-small : s + t ≤ 2 * 4096
-        level-small = omega (arith, i .swept .small, r .ground .few, two)
-
-        pub level-next : {y : ℕ} → y ≡ at next (x - 1) → length low′ ≡ length low → length mark′ ≡ length mark
-            → LevelSweeping up next low₁ mark₁ low′ mark′ k y (s + t)
-        level-next {y} e p q = record {
-          on = rw e (on-next (r .ground .lists) (i .on) some);
-          lows = p ∙ i .lows;
-          marks = q ∙ i .marks;
-          swept = record {
-            sweeps = λ low₀ mark₀ rise j.
-                let z : rise + (s + t) ≡ rise + s + t = omega arith in
-                rw z (one-more (r .ground) (i .on) some (i .swept .sweeps low₀ mark₀ rise j) n e);
-            small = omega (arith, i .swept .small, two, level-less e);
-          };
-        }
+      pub level-next : {y : ℕ} → y ≡ at next (x - 1) → length low′ ≡ length low → length mark′ ≡ length mark
+          → LevelSweeping up next low₁ mark₁ low′ mark′ k y (s + t)
+      level-next {y} e p q = record {
+        on = rw e (on-next (r .ground .lists) (i .on) some);
+        lows = p ∙ i .lows;
+        marks = q ∙ i .marks;
+        swept = record {
+          sweeps = λ low₀ mark₀ rise j.
+              let z : rise + (s + t) ≡ rise + s + t = omega arith in
+              rw z (one-more (r .ground) (i .on) some (i .swept .sweeps low₀ mark₀ rise j) n e);
+          small = omega (arith, i .swept .small, two, less (r .ground) (i .on) some e);
+        };
+      }
 
     pub level-end : x ≤ 0 → LevelSwept up next low₁ low mark₁ mark k s
     level-end h = let e : x ≡ 0 = omega arith in rw e at (i .swept)
