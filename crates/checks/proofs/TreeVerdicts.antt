@@ -72,7 +72,7 @@ module _ (up : List ℕ) {c : Verdict} (q : c ≡ upsVerdict up) where
     unfolding upsVerdict
     ups-inside v h = leb-false (length up) (at up v) (none-refused Fault.Entry (length up) (λ k. leb (length up) (at up k)) (all-sound _ (told e q) .0) v h)
 
-    pub ups-hub : hub up < length up
+    ups-hub : hub up < length up
     unfolding upsVerdict
     ups-hub = ltb-true (hub up) (length up) (unless-sound _ _ _ (all-sound _ (all-sound _ (told e q) .1 .0) .0))
 

@@ -16,8 +16,8 @@ use Rattle.tables.specs.Demand1.{SoundTree}
 use Rattle.tables.proofs.Sound.{rooted}
 use Rattle.lanes.specs.Depths.{Listed, OnList, Past}
 use Rattle.lanes.specs.Lane.{InLane, highest, along, Laned}
-use Rattle.lanes.specs.Laying.{Ground, Levels, Noted, Offerable, Walkable, TopFor, itself, as-kid, LanesTo, LayableAt}
-use Rattle.lanes.proofs.Walking.{on-head, none-past, here-in, here-depth, on-next, next-less, past-more}
+use Rattle.lanes.specs.Laying.{Ground, Levels, ListAt, Walkable, TopFor, itself, as-kid, LanesTo, LayableAt}
+use Rattle.lanes.proofs.Walking.{on-head, none-past, here-in, here-depth, on-next, past-more}
 
 -- a top that is written at v is no matter to a machine that is no ranker
 in-lane-put : {up top kid : List ℕ} (s : SoundTree up) {u v : ℕ} (t : ℕ) → u ≢ v → depthOf up u ≤ depthOf up v → InLane up top kid u → InLane up (set top v t) kid u
@@ -47,9 +47,6 @@ pub record LevelAt (up next kid top : List ℕ) (k x : ℕ) : Type 0 where
   pub level : (v : ℕ) → v < length up → Listed next v → Past (depthOf up) k x v → InLane up top kid v
 
 module _ {up head next kid top₀ : List ℕ} {k : ℕ} (r : LayableAt up head next kid top₀ k) where
-  pub level-in : k < length head
-  level-in = rw (r .ground .lists .heads) (r .below)
-
   pub level-start : {x : ℕ} → x ≡ at head k → LevelAt up next kid top₀ k x
   level-start e = rw e (record { higher = r .lanes; on = on-head (r .ground .lists) k; level = λ v h p q. absurd (none-past (r .ground .lists) h p q) })
 
@@ -58,17 +55,8 @@ module _ {up head next kid top₀ : List ℕ} {k : ℕ} (r : LayableAt up head n
       here : x - 1 < length up
       here = here-in (r .ground .lists) (i .on) g
 
-      pub beside : Noted up kid top (x - 1)
-      beside = record { few = r .ground .few; here = here; above = r .ground .tree .inside (x - 1) here; ones = r .kids; twos = i .higher .tops }
-
       pub top-in : x - 1 < length top
       top-in = rw (i .higher .tops) here
-
-      pub next-in : x - 1 < length next
-      next-in = rw (r .ground .lists .nexts) here
-
-      pub level-less : {y : ℕ} → y ≡ at next (x - 1) → y < x
-      level-less = next-less (r .ground .lists) (i .on) g
 
       pub level-next : {t y : ℕ} → TopFor up kid top (x - 1) t → y ≡ at next (x - 1) → LevelAt up next kid (set top (x - 1) t) k y
       level-next {t} f e =
@@ -117,29 +105,14 @@ pub record Offering (up next rank kid : List ℕ) (k x : ℕ) : Type 0 where
   pub ranks : length rank ≡ length up
   pub kids : length kid ≡ length up
 
-module _ {up head next rank₀ kid₀ : List ℕ} {k : ℕ} (r : Offerable up head next rank₀ kid₀ k) where
-  pub offer-in : k < length head
-  offer-in = rw (r .ground .lists .heads) (r .below)
-
+module _ {up head next rank₀ kid₀ : List ℕ} {k : ℕ} (r : ListAt up head next rank₀ kid₀ k) where
   pub offer-start : {x : ℕ} → x ≡ at head k → Offering up next rank₀ kid₀ k x
   offer-start e = rw e (record { on = on-head (r .ground .lists) k; ranks = r .ones; kids = r .twos })
 
   module _ {rank kid : List ℕ} {x : ℕ} (i : Offering up next rank kid k x) where
-    module _ (g : 0 < x) where
-      offered : x - 1 < length up
-      offered = here-in (r .ground .lists) (i .on) g
-
-      pub offer-next-in : x - 1 < length next
-      offer-next-in = rw (r .ground .lists .nexts) offered
-
-      pub offer-ready : Noted up rank kid (x - 1)
-      offer-ready = record { few = r .ground .few; here = offered; above = r .ground .tree .inside (x - 1) offered; ones = i .ranks; twos = i .kids }
-
-      pub offer-less : {y : ℕ} → y ≡ at next (x - 1) → y < x
-      offer-less = next-less (r .ground .lists) (i .on) g
-
-      pub offer-next : {rank′ kid′ : List ℕ} {y : ℕ} → y ≡ at next (x - 1) → length rank′ ≡ length rank → length kid′ ≡ length kid → Offering up next rank′ kid′ k y
-      offer-next e p q = record { on = rw e (on-next (r .ground .lists) (i .on) g); ranks = p ∙ i .ranks; kids = q ∙ i .kids }
+    pub offer-next : {rank′ kid′ : List ℕ} {y : ℕ} → 0 < x → y ≡ at next (x - 1) → length rank′ ≡ length rank → length kid′ ≡ length kid
+        → Offering up next rank′ kid′ k y
+    offer-next g e p q = record { on = rw e (on-next (r .ground .lists) (i .on) g); ranks = p ∙ i .ranks; kids = q ∙ i .kids }
 
     pub same-rank : length rank ≡ length rank₀
     same-rank = i .ranks ∙ sym (r .ones)
@@ -158,7 +131,7 @@ module _ {up head next rank₀ kid₀ : List ℕ} {count : ℕ} (r : Walkable up
   kids-start = record { far = r .levels .high; ranks = r .ones; kids = r .twos }
 
   module _ {rank kid : List ℕ} {k : ℕ} (i : Kids up rank kid k) where
-    pub kids-ready : 0 < k → Offerable up head next rank kid (k - 1)
+    pub kids-ready : 0 < k → ListAt up head next rank kid (k - 1)
     kids-ready h = record { ground = r .ground; below = omega (arith, i .far); ones = i .ranks; twos = i .kids }
 
     pub kids-next : {rank′ kid′ : List ℕ} → length rank′ ≡ length rank → length kid′ ≡ length kid → Kids up rank′ kid′ (k - 1)

@@ -20,7 +20,7 @@ use Rattle.lanes.specs.Laying.{LanesTo}
 use Rattle.lanes.specs.Forest.{Forest, Flattened}
 use Rattle.lanes.specs.Low.{Sweepable}
 use Rattle.lanes.specs.Hung.{groupings, Source, Batched, HungAll}
-use Rattle.lanes.specs.Whole.{Named, Applicable, Bare, Looked, Joinable, Joined, Prepared}
+use Rattle.lanes.specs.Whole.{Named, Applicable, Bare, Looked, Joined, Prepared}
 use Rattle.tables.proofs.Reading.{depth-size, depth-at}
 use Rattle.lanes.proofs.Numbers.{in-pairs, number-in}
 use Rattle.lanes.proofs.Listing.{lists-by}
@@ -73,29 +73,14 @@ module _ {up depth batch low head next : List ℕ} (b : Bare up depth batch low 
 
 -- names are a forest, whose trees have one level
 named-forest : {group : List ℕ} → Named group → Forest group group
-named-forest n = record { size = refl; down = record { le = n .le }; same = n .self; own = λ x h e. e }
-
-pub hang-ready : {up depth top kid group low batch : List ℕ} → Joinable up depth top kid group low batch → Batched up depth top kid group low batch
-hang-ready j = record {
-  few = j .few;
-  tree = j .tree;
-  depths = j .depths;
-  tops = j .tops;
-  kids = j .kids;
-  groups = j .groups;
-  forest = named-forest (j .named);
-  laned = j .laned;
-  lows = j .lows;
-  fresh = j .fresh;
-  accepted = j .accepted;
-}
+named-forest n = record { size = refl; down = n .down; same = n .self; own = λ x h e. e }
 
 pub joined : {up group batch group₁ group₂ low : List ℕ} → HungAll up batch group group₁ low → Flattened group₁ group₂ → Joined up group batch group₂ low
 joined {up} {group} {batch} n f = record { names = f (groupings up batch (length (pairs batch)) group) (n .forest); lows = n .lows }
 
 module _ {up depth group mark batch low₀ head₀ next₀ kid₀ top₀ : List ℕ} (p : Prepared up depth group mark batch low₀ head₀ next₀ kid₀ top₀)
     {low head next : List ℕ} {count : ℕ} (k : Looked up batch low head next count) where
-  pub join-ready : {kid top : List ℕ} → length kid ≡ length kid₀ → LanesTo up next kid top count → Joinable up depth top kid group low batch
+  pub join-ready : {kid top : List ℕ} → length kid ≡ length kid₀ → LanesTo up next kid top count → Batched up depth top kid group low batch
   join-ready e l = let r = p .given in record {
     few = r .few;
     tree = r .tree;
@@ -104,7 +89,7 @@ module _ {up depth group mark batch low₀ head₀ next₀ kid₀ top₀ : List 
     kids = e ∙ p .kids;
     laned = λ j h. laned (k .ground) (k .levels) l (at batch j) (number-in (length up) batch (r .batch) j h) (k .ends j h);
     groups = r .group-size;
-    named = r .named;
+    forest = named-forest (r .named);
     lows = k .lows;
     fresh = k .fresh;
     accepted = r .batch;
@@ -113,10 +98,7 @@ module _ {up depth group mark batch low₀ head₀ next₀ kid₀ top₀ : List 
   -- whoever is on no list is no end, so it knows of no ring
   pub sweep-ready : {group′ low′ : List ℕ} → Joined up group batch group′ low′ → Sweepable up head next low′ mark count
   sweep-ready {low′ = low′} j = record {
-    ground = k .ground;
-    levels = k .levels;
-    lows = j .lows .size;
-    marks = p .given .mark-size;
+    walk = record { ground = k .ground; levels = k .levels; ones = j .lows .size; twos = p .given .mark-size };
     unlisted = λ v h e. ⊎-elim (λ d. d) (λ (q : Source up batch (length (pairs batch)) v (at low′ v)). absurd (no-end e q)) (j .lows .source v h);
   }
     where
@@ -169,4 +151,4 @@ prepared {up} r = record {
 pub told-named : {up : List ℕ} {L : Relation} {t : Tables} → Told up L t → Named (t .group)
 told-named k =
     let n = k .named in
-    record { le = λ x i. n .least x (rw (n .size) at i); self = λ x i. sym (group-name n (n .own x (rw (n .size) at i))) }
+    record { down = record { le = λ x i. n .least x (rw (n .size) at i) }; self = λ x i. sym (group-name n (n .own x (rw (n .size) at i))) }

@@ -138,7 +138,7 @@ module _ {up depth low₀ batch : List ℕ} (r : Lookable up depth low₀ batch)
   }
 
   module _ {low : List ℕ} {levels i : ℕ} (p : SeenTo up batch low levels i) (h : i < length batch) {v : ℕ} (e : v ≡ at batch i) where
-    pub end-in : v < length up
+    end-in : v < length up
     end-in = rw e (number-in (length up) batch (r .accepted) i h)
 
     pub see-ready : Seeable up depth low v

@@ -20,7 +20,7 @@ use Rattle.tables.proofs.Lines.{up-over}
 use Rattle.lanes.specs.Seen.{none}
 use Rattle.lanes.specs.Depths.{Listed, OnList}
 use Rattle.lanes.specs.Low.{asked, lowered, Lifted, Handed, Known, Passed, Sweeping}
-use Rattle.lanes.proofs.Walking.{none-past, here-in, here-listed, here-depth, next-less, past-more, past-still}
+use Rattle.lanes.proofs.Walking.{none-past, here-in, here-listed, here-depth, less, past-more, past-still}
 use Rattle.plain.proofs.Putting.{Put, here, there, put}
 
 pub handed-by : {up low low′ mark mark′ : List ℕ} {v k p a s : ℕ} → p ≡ at up v → low′ ≡ lowered low p (at low v) → a ≡ asked (at low v) k
@@ -145,7 +145,7 @@ module _ {up head next : List ℕ} (g : Ground up head next) {low₀ mark₀ low
     rest : (u : ℕ) {a : ℕ} → u < length up → at next u ≡ none ⊎ ¬ Passed up k (at next v) u → Put mark v (max (at mark v) (asked (at low v) k)) u a → a ≡ at mark₀ u
     rest u h n (here e f) = absurd (⊎-elim
         (λ q. listed (ap (at next) (sym e) ∙ q))
-        (λ q. q (rw e (inr (depth-is, omega (arith, next-less (g .lists) c some refl)))))
+        (λ q. q (rw e (inr (depth-is, omega (arith, less g c some refl)))))
         n)
     rest u h n (there o f) = f ∙ i .rest u h (⊎-map (λ n. n) (λ n q. n (after q)) n)
 

@@ -28,7 +28,7 @@ down-put {g} d {i} {v} h l = record { le = λ x p. go x (omega (arith, length-se
 
 -- an entry put among those of its own group keeps the groups, where none becomes its own name
 module _ {g flat : List ℕ} (f : Forest g flat) {x v : ℕ} (h : x < length g) (l : v ≤ x) (e : at flat v ≡ at flat x) (o : v ≡ x → at g x ≡ x) where
-  pub forest-put : Forest (set g x v) flat
+  forest-put : Forest (set g x v) flat
   forest-put = record {
     size = length-set g x v ∙ f .size;
     down = down-put (f .down) h l;

@@ -5,8 +5,11 @@ use mathlib.Core.Logic.{_⊎_, inl, inr, dite}
 use Prim.Native.Nat.{ℕ, suc, _-_, _<_, _≤_}
 use native.Mathlib.Decide.{ℕ-discrete, decLt}
 use native.Mathlib.Omega.{arith}
+use lib.ListN.{length}
 use Rattle.plain.specs.Table.{at}
+use Rattle.tables.specs.Tree.{depthOf}
 use Rattle.lanes.specs.Depths.{Listed, Lists, OnList, Past}
+use Rattle.lanes.specs.Laying.{Ground, Noted}
 
 module _ {n : ℕ} {d : ℕ → ℕ} {head next : List ℕ} (l : Lists n d n head next) where
   pub on-head : (k : ℕ) → OnList n d next k (at head k)
@@ -38,7 +41,7 @@ module _ {n : ℕ} {d : ℕ → ℕ} {head next : List ℕ} (l : Lists n d n hea
     pub on-next : OnList n d next k (at next (x - 1))
     on-next u e = let (g, p, q) = l .next-on (x - 1) u here-in here-listed e in (omega (arith, here-in), p, q ∙ here-depth)
 
-    pub next-less : {y : ℕ} → y ≡ at next (x - 1) → y < x
+    next-less : {y : ℕ} → y ≡ at next (x - 1) → y < x
     next-less {y} e = dite (decLt y x) (λ b. b) λ b.
         let q : y ≡ suc (y - 1) = omega arith in
         omega (arith, l .next-on (x - 1) (y - 1) here-in here-listed (sym e ∙ q) .0)
@@ -52,3 +55,18 @@ module _ {n : ℕ} {d : ℕ → ℕ} {head next : List ℕ} (l : Lists n d n hea
     -- and none less
     pub past-still : {u : ℕ} → Past d k x u → Past d k (at next (x - 1)) u
     past-still (e, f) = (e, omega (arith, next-less refl))
+
+-- a walk stays inside its tables and goes down in number
+module _ {up head next : List ℕ} (g : Ground up head next) {k : ℕ} where
+  pub list-in : k < length up → k < length head
+  list-in h = rw (g .lists .heads) h
+
+  module _ {x : ℕ} (o : OnList (length up) (depthOf up) next k x) (some : 0 < x) where
+    pub next-in : x - 1 < length next
+    next-in = rw (g .lists .nexts) (here-in (g .lists) o some)
+
+    pub less : {y : ℕ} → y ≡ at next (x - 1) → y < x
+    less = next-less (g .lists) o some
+
+    pub noted : {one two : List ℕ} → length one ≡ length up → length two ≡ length up → Noted up one two (x - 1)
+    noted p q = let h = here-in (g .lists) o some in record { few = g .few; here = h; above = g .tree .inside (x - 1) h; ones = p; twos = q }

@@ -97,15 +97,15 @@ module _ {up depth group mark batch : List ℕ} (r : Applicable up depth group m
   module _ {low : List ℕ} (l : Lows up batch (length (pairs batch)) low) {next : List ℕ} (n : (j : ℕ) → j < length batch → Listed next (at batch j))
       {x z : ℕ} (h : x < length up) (u : LeastUnder up next low x z) where
     at-least : asked z (depthOf up x) ≤ greatest up (pairs batch) x
-    at-least = ⊎-elim
-        (λ d. none-asked (omega (arith, u .is, over (rooted (r .tree)) (u .under))))
-        (λ (q : Source up batch (length (pairs batch)) (u .from) (at low (u .from))).
+    at-least = let k = u .known in ⊎-elim
+        (λ d. none-asked (omega (arith, k .is, over (rooted (r .tree)) (k .under))))
+        (λ (q : Source up batch (length (pairs batch)) (k .from) (at low (k .from))).
         let g = good (q .link) (q .before) in
-        let i = ⊎-map (λ (e : u .from ≡ one batch (q .link)). rw e at (u .under)) (λ (e : u .from ≡ two batch (q .link)). rw e at (u .under)) (q .end) in
+        let i = ⊎-map (λ (e : k .from ≡ one batch (q .link)). rw e at (k .under)) (λ (e : k .from ≡ two batch (q .link)). rw e at (k .under)) (q .end) in
         let d = asked-due (r .tree) (g .one) (g .two) h i in
         let e = greatest-each up x (pairs batch) (q .link) (q .before) in
-        rw (u .is ∙ q .is) (le-trans d (rw (ends (q .link) (q .before)) at e)))
-        (l .source (u .from) (u .low-in))
+        rw (k .is ∙ q .is) (le-trans d (rw (ends (q .link) (q .before)) at e)))
+        (l .source (k .from) (k .low-in))
       where
         none-asked : depthOf up x ≤ z → asked z (depthOf up x) ≤ greatest up (pairs batch) x
         none-asked d = omega (arith, ask-none d)

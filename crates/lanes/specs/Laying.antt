@@ -34,7 +34,7 @@ pub record Noted (up one two : List ℕ) (v : ℕ) : Type 0 where
   pub twos : length two ≡ length up
 
 -- the list of depth k, with two tables of notes
-pub record Offerable (up head next one two : List ℕ) (k : ℕ) : Type 0 where
+pub record ListAt (up head next one two : List ℕ) (k : ℕ) : Type 0 where
   pub ground : Ground up head next
   pub below : k < length up
   pub ones : length one ≡ length up

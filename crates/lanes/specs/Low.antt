@@ -12,7 +12,7 @@ use Rattle.tables.specs.Tree.{depthOf}
 use Rattle.tables.specs.AsTree.{treeOf}
 use Rattle.lanes.specs.Seen.{none}
 use Rattle.lanes.specs.Depths.{Listed, Past}
-use Rattle.lanes.specs.Laying.{Ground, Levels}
+use Rattle.lanes.specs.Laying.{Walkable}
 
 -- the mark that a ring which reaches depth l asks of a machine at depth d below it
 unfoldable pub asked : ℕ → ℕ → ℕ
@@ -27,13 +27,6 @@ pub record Lifted (mark mark′ : List ℕ) (v k rise : ℕ) : Type 0 where
   pub marks : mark′ ≡ set mark v (max (at mark v) k)
   pub is : rise ≡ max (at mark v) k - at mark v
 
--- v and its up are machines, with a depth and a mark for each
-pub record Handable (up low mark : List ℕ) (v : ℕ) : Type 0 where
-  pub here : v < length up
-  pub above : at up v < length up
-  pub lows : length low ≡ length up
-  pub marks : length mark ≡ length up
-
 -- v, of depth k, is lifted to what its entry asks, and hands the entry up
 pub record Handed (up low low′ mark mark′ : List ℕ) (v k rise : ℕ) : Type 0 where
   pub lows : low′ ≡ lowered low (at up v) (at low v)
@@ -41,25 +34,8 @@ pub record Handed (up low low′ mark mark′ : List ℕ) (v k rise : ℕ) : Typ
 
 -- what a sweep over the lists takes: whoever is on no list knows of no ring
 pub record Sweepable (up head next low mark : List ℕ) (count : ℕ) : Type 0 where
-  pub ground : Ground up head next
-  pub levels : Levels up next count
-  pub lows : length low ≡ length up
-  pub marks : length mark ≡ length up
+  pub walk : Walkable up head next low mark count
   pub unlisted : (v : ℕ) → v < length up → at next v ≡ none → depthOf up v ≤ at low v
-
--- l is the least entry of a machine under v, of those on lists
-pub record LeastUnder (up next low : List ℕ) (v l : ℕ) : Type 0 where
-  pub from : ℕ
-  pub low-in : from < length up
-  pub under : Under (treeOf up) v from
-  pub is : l ≡ at low from
-  pub least : (u : ℕ) → u < length up → Listed next u → Under (treeOf up) v u → l ≤ at low u
-
--- each machine is asked what the least entry under it asks
-pub record Swept (up next low mark mark′ : List ℕ) (rise : ℕ) : Type 0 where
-  pub size : length mark′ ≡ length up
-  pub marked : (v : ℕ) → v < length up → (l : ℕ) × LeastUnder up next low v l × (at mark′ v ≡ max (at mark v) (asked l (depthOf up v)))
-  pub sum : total mark′ ≡ total mark + rise
 
 -- some machine under v has l as its entry
 pub record Known (up low : List ℕ) (v l : ℕ) : Type 0 where
@@ -67,6 +43,17 @@ pub record Known (up low : List ℕ) (v l : ℕ) : Type 0 where
   pub low-in : from < length up
   pub under : Under (treeOf up) v from
   pub is : l ≡ at low from
+
+-- l is the least entry of a machine under v, of those on lists
+pub record LeastUnder (up next low : List ℕ) (v l : ℕ) : Type 0 where
+  pub known : Known up low v l
+  pub least : (u : ℕ) → u < length up → Listed next u → Under (treeOf up) v u → l ≤ at low u
+
+-- each machine is asked what the least entry under it asks
+pub record Swept (up next low mark mark′ : List ℕ) (rise : ℕ) : Type 0 where
+  pub size : length mark′ ≡ length up
+  pub marked : (v : ℕ) → v < length up → (l : ℕ) × LeastUnder up next low v l × (at mark′ v ≡ max (at mark v) (asked l (depthOf up v)))
+  pub sum : total mark′ ≡ total mark + rise
 
 -- whoever is on deeper lists is passed, and on the list of depth k whoever the sweep came by
 abbrev pub Passed : List ℕ → ℕ → ℕ → ℕ → Type 0
@@ -83,13 +70,6 @@ pub record Sweeping (up next low₀ mark₀ low mark : List ℕ) (k x rise : ℕ
   pub rest : (v : ℕ) → v < length up → at next v ≡ none ⊎ ¬ Passed up k x v → at mark v ≡ at mark₀ v
   pub blank : (v : ℕ) → v < length up → at next v ≡ none → at low v ≡ at low₀ v
   pub sum : total mark ≡ total mark₀ + rise
-
--- the list of depth k, with entries and marks
-pub record SweepableAt (up head next low mark : List ℕ) (k : ℕ) : Type 0 where
-  pub ground : Ground up head next
-  pub below : k < length up
-  pub lows : length low ≡ length up
-  pub marks : length mark ≡ length up
 
 -- from x on to the list's end, whatever was swept before
 pub record SweptFrom (up next low low′ mark mark′ : List ℕ) (k x r : ℕ) : Type 0 where

@@ -11,13 +11,13 @@ use Rattle.tables.specs.Batch.{pairs, batchVerdict, after}
 use Rattle.tables.specs.Demand1.{SoundTree}
 use Rattle.lanes.specs.Seen.{none, Lookable}
 use Rattle.lanes.specs.Depths.{Listed}
-use Rattle.lanes.specs.Lane.{Laned}
 use Rattle.lanes.specs.Laying.{Ground, Levels}
+use Rattle.lanes.specs.Forest.{Down}
 use Rattle.lanes.specs.Hung.{groupings, Lows}
 
 -- each entry is the name of a group: no greater than its machine, and its own entry. The tables of links that stand have such groups
 pub record Named (group : List ℕ) : Type 0 where
-  pub le : (x : ℕ) → x < length group → at group x ≤ x
+  pub down : Down group
   pub self : (x : ℕ) → x < length group → at group (at group x) ≡ at group x
 
 -- what a batch takes: a sound tree with right depths, tables of the right lengths, groups by their names, and numbers that are accepted
@@ -50,20 +50,6 @@ pub record Looked (up batch low head next : List ℕ) (count : ℕ) : Type 0 whe
   pub ends : (j : ℕ) → j < length batch → Listed next (at batch j)
   pub lows : length low ≡ length up
   pub fresh : (v : ℕ) → v < length up → depthOf up v ≤ at low v
-
--- a batch that is accepted, over a tree with the lanes of its ends
-pub record Joinable (up depth top kid group low batch : List ℕ) : Type 0 where
-  pub few : length up ≤ mostMachines
-  pub tree : SoundTree up
-  pub depths : depth ≡ tabulate (length up) (depthOf up)
-  pub tops : length top ≡ length up
-  pub kids : length kid ≡ length up
-  pub laned : (j : ℕ) → j < length batch → Laned up top kid (at batch j)
-  pub groups : length group ≡ length up
-  pub named : Named group
-  pub lows : length low ≡ length up
-  pub fresh : (v : ℕ) → v < length up → depthOf up v ≤ at low v
-  pub accepted : batchVerdict (length up) batch ≡ Sound
 
 -- the groups after the batch, and how high its rings reach
 pub record Joined (up group batch group′ low : List ℕ) : Type 0 where

@@ -1,11 +1,11 @@
 // Lanes laid over the machines on lists: a machine and its kid are in one lane. A machine's rank is no less than its kid's and greater than that of any other child; a rank of r takes
-// 2 to the power of r - 1 machines. So ranks rise from lane to lane, and a line has at most 13 lanes. But which child the kid is matters to speed alone: nothing is proved of it.
+// 2 to the power of r - 1 machines. So ranks rise from lane to lane, and a line has at most 13 lanes, where links are not few. But which child the kid is matters to speed alone: nothing is proved of it.
 ghost use mathlib.Core.Path.{_≡_};
 ghost use Prim.Native.Nat.{_+_, _≤_};
 ghost use lib.ListN.{length};
 ghost use Rattle.plain.specs.Table.{tabulate};
 ghost use Rattle.tables.specs.Tree.{mostMachines};
-ghost use Rattle.lanes.specs.Laying.{Noted, Walkable, Offerable, TopFor, LayableAt, LanesTo};
+ghost use Rattle.lanes.specs.Laying.{Noted, Walkable, ListAt, TopFor, LayableAt, LanesTo};
 use crate::table::at;
 
 // No machine has a greater rank: 4,096 are not enough for it.
@@ -40,7 +40,7 @@ fn offer(up: &[u16], rank: &mut [u16], kid: &mut [u16], v: usize)
 
 // Offers the machines of depth k.
 fn offers(up: &[u16], head: &[u16], next: &[u16], rank: &mut [u16], kid: &mut [u16], k: usize)
-    requires { ⌜ Offerable (now up) (now head) (now next) (now rank) (now kid) k ⌝ }
+    requires { ⌜ ListAt (now up) (now head) (now next) (now rank) (now kid) k ⌝ }
 {
     let mut x = at(head, k);
     while 0 < x {

@@ -1,6 +1,7 @@
 // What a batch of links does, in time near the number of machines and links on every tree: the two ends of a link meet by lanes, pieces of lines that
 // are passed at one hop, and one sweep over the machines on the lines of the ends raises the marks.
-ghost use Rattle.lanes.specs.Whole.{Applicable, Applied, Bare, Looked, Joinable, Joined, Prepared};
+ghost use Rattle.lanes.specs.Hung.{Batched};
+ghost use Rattle.lanes.specs.Whole.{Applicable, Applied, Bare, Looked, Joined, Prepared};
 
 mod groups;
 mod hang;
@@ -43,7 +44,7 @@ fn join(
     low: &mut [u16],
     batch: &[u16],
 )
-    requires { ⌜ Joinable (now up) (now depth) (now top) (now kid) (now group) (now low) (now batch) ⌝ }
+    requires { ⌜ Batched (now up) (now depth) (now top) (now kid) (now group) (now low) (now batch) ⌝ }
     ensures { λ _. ⌜ Joined (now (up .entry)) (now (group .entry)) (now (batch .entry)) (now (group .exit)) (now (low .exit)) ⌝ }
 {
     hang::hang_all(up, depth, top, kid, group, low, batch);

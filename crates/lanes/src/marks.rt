@@ -2,7 +2,8 @@
 ghost use mathlib.Core.Path.{_≡_};
 ghost use Prim.Native.Nat.{_<_, max, min};
 ghost use lib.ListN.{length};
-ghost use Rattle.lanes.specs.Low.{asked, lowered, Lifted, Handable, Handed, Sweepable, Swept, SweepableAt, LevelSwept};
+ghost use Rattle.lanes.specs.Laying.{Noted, ListAt};
+ghost use Rattle.lanes.specs.Low.{asked, lowered, Lifted, Handed, Sweepable, Swept, LevelSwept};
 use crate::table::at;
 
 // The lesser of two depths.
@@ -50,7 +51,7 @@ fn lift(mark: &mut [u8], v: usize, k: u8) -> usize
 
 // A machine v of depth k is lifted to what its least depth asks, and hands that depth up. Gives back by how much its mark rose.
 fn hand_up(up: &[u16], low: &mut [u16], mark: &mut [u8], v: usize, k: usize) -> usize
-    requires { ⌜ Handable (now up) (now low) (now mark) v ⌝ }
+    requires { ⌜ Noted (now up) (now low) (now mark) v ⌝ }
     ensures { λ r. ⌜ Handed (now (up .entry)) (now (low .entry)) (now (low .exit)) (now (mark .entry)) (now (mark .exit)) v k r ⌝ }
 {
     let l = low[v];
@@ -67,7 +68,7 @@ fn sweep_level(
     mark: &mut [u8],
     k: usize,
 ) -> usize
-    requires { ⌜ SweepableAt (now up) (now head) (now next) (now low) (now mark) k ⌝ }
+    requires { ⌜ ListAt (now up) (now head) (now next) (now low) (now mark) k ⌝ }
     ensures { λ r. ⌜ LevelSwept (now (up .entry)) (now (next .entry)) (now (low .entry)) (now (low .exit)) (now (mark .entry)) (now (mark .exit)) k r ⌝ }
 {
     let mut rise: usize = 0;

@@ -60,10 +60,10 @@ fn see_every(depth: &[u16], low: &mut [u16]) -> usize
     levels
 }
 
-// Where a batch has an end for so many machines, most machines are on a line.
+// Where a batch has an end for every so many machines, every machine is seen.
 const MACHINES_AN_END: usize = 4;
 
-// The machines on the lines of a batch's ends, or all, where most are: that is sooner done.
+// The machines on the lines of a batch's ends, or all, where ends are many: that is sooner done than climbing from each.
 pub fn see_all(up: &[u16], depth: &[u16], low: &mut [u16], batch: &[u16]) -> usize
     requires { ⌜ Lookable (now up) (now depth) (now low) (now batch) ⌝ }
     ensures { λ r. ⌜ SeenTo (now (up .entry)) (now (batch .entry)) (now (low .exit)) r (length (now (batch .entry))) ⌝ }

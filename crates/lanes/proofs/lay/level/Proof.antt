@@ -1,7 +1,8 @@
 -- `lay::level` meets its contract: the machines that the walk came by are in lanes.
 use native.Mathlib.Omega.{arith}
 use borrow.Author.Needs.{needs}
-use Rattle.lanes.proofs.Laying.{LevelAt, level-in, level-start, beside, top-in, next-in, level-less, level-next, level-end}
+use Rattle.lanes.proofs.Walking.{list-in, next-in, less, noted}
+use Rattle.lanes.proofs.Laying.{LevelAt, level-start, top-in, level-next, level-end}
 use Rattle.lanes.proofs.lay.level.Statement.{statement}
 use Rattle.lanes.proofs.lay.level.Tie as tie
 
@@ -20,14 +21,14 @@ level-spec =
     (tie.spec
     Inv-loop
     μ-loop
-    (λ c κs. search level-in)
+    (λ c κs. search list-in)
     (λ c. search level-start)
     (λ c. search needs)
     (λ c κs. search next-in)
-    (λ c κs. search beside)
+    (λ c κs. search noted)
     mul-top
     (λ c. search top-in)
-    (λ c. search level-less)
+    (λ c. search less)
     (λ c. search level-next)
     (λ c. search needs)
     (λ c. search level-end))

@@ -1,6 +1,7 @@
 -- `lay::offers` keeps inside its tables: the walk of the list goes down in number.
 use borrow.Author.Needs.{needs}
-use Rattle.lanes.proofs.Laying.{Offering, offer-in, offer-start, offer-next-in, offer-ready, offer-less, offer-next, same-rank, same-kid}
+use Rattle.lanes.proofs.Walking.{list-in, next-in, less, noted}
+use Rattle.lanes.proofs.Laying.{Offering, offer-start, offer-next, same-rank, same-kid}
 use Rattle.lanes.proofs.lay.offers.Statement.{statement}
 use Rattle.lanes.proofs.lay.offers.Tie as tie
 
@@ -16,12 +17,12 @@ offers-spec =
     (tie.spec
     Inv-loop
     μ-loop
-    (λ c κs. search offer-in)
+    (λ c κs. search list-in)
     (λ c. search offer-start)
     (λ c. search needs)
-    (λ c κs. search offer-next-in)
-    (λ c κs. search offer-ready)
-    (λ c. search offer-less)
+    (λ c κs. search next-in)
+    (λ c κs. search noted)
+    (λ c. search less)
     (λ c. search offer-next)
     (λ c. search same-rank)
     (λ c. search same-kid)

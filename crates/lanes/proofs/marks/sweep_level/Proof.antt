@@ -1,7 +1,8 @@
 -- `marks::sweep_level` meets its contract: whatever was swept before, the machines that the walk came by are swept too.
 use native.Mathlib.Omega.{arith}
 use borrow.Author.Needs.{needs}
-use Rattle.lanes.proofs.Settling.{LevelSweeping, level-in, level-start, next-in, hand-ready, level-small, level-less, level-next, level-end}
+use Rattle.lanes.proofs.Walking.{list-in, next-in, less, noted}
+use Rattle.lanes.proofs.Settling.{LevelSweeping, level-start, level-small, level-next, level-end}
 use Rattle.lanes.proofs.marks.sweep_level.Statement.{statement}
 use Rattle.lanes.proofs.marks.sweep_level.Tie as tie
 
@@ -22,13 +23,13 @@ sweep-level-spec =
     (tie.spec
     Inv-loop
     μ-loop
-    (λ c κs. search level-in)
+    (λ c κs. search list-in)
     (λ c. search level-start)
     (λ c. search needs)
     (λ c κs. search next-in)
-    (λ c κs. search hand-ready)
+    (λ c κs. search noted)
     add-rise
-    (λ c. search level-less)
+    (λ c. search less)
     (λ c. search level-next)
     (λ c. search needs)
     (λ c. search needs)
