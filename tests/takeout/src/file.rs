@@ -23,9 +23,9 @@ pub struct Refusal {
 #[derive(Default)]
 pub struct SiteFile {
     pub up: Vec<usize>,
-    /// The links of all closed batches, in the file's order.
-    pub links: Vec<Link>,
-    /// For each report, how many of `links` the site had by then. These numbers never fall.
+    /// The closed batches, in the file's order.
+    pub batches: Vec<Vec<Link>>,
+    /// For each report, how many of `batches` were closed by then. These numbers never fall.
     pub reports: Vec<usize>,
     pub refusal: Option<Refusal>,
 }
@@ -96,9 +96,9 @@ impl SiteFile {
                 }
                 4 => {
                     check_batch(&open, self.up.len())?;
-                    self.links.append(&mut open);
+                    self.batches.push(std::mem::take(&mut open));
                 }
-                _ => self.reports.push(self.links.len()),
+                _ => self.reports.push(self.batches.len()),
             }
             at += 1 + length;
         }
