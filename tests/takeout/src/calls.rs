@@ -7,9 +7,9 @@ use std::thread::{self, JoinHandle};
 
 use crate::class::{grouped, Class, Codes};
 use crate::reading::Document01;
-use crate::text::Case;
+use crate::text::{Case, Letter};
 use crate::verdict::{judge, Failure, Verdict};
-use crate::{call_histories, call_tables, call_trees};
+use crate::{call_histories, call_plans, call_tables, call_trees};
 
 /// Takes each case that a generator makes.
 pub type Take<'a> = &'a mut dyn FnMut(Case);
@@ -17,7 +17,7 @@ pub type Take<'a> = &'a mut dyn FnMut(Case);
 /// Makes cases and hands each on.
 pub type Cases = fn(Take);
 
-pub const ALL: [Class<Cases>; 5] = [
+pub const ALL: [Class<Cases>; 6] = [
     Class {
         things: "trees and lengths",
         each: call_trees::all,
@@ -29,6 +29,10 @@ pub const ALL: [Class<Cases>; 5] = [
     Class {
         things: "histories by chance",
         each: call_histories::all,
+    },
+    Class {
+        things: "plans to write",
+        each: call_plans::all,
     },
     Class {
         things: "large sites",
@@ -46,6 +50,9 @@ const CASES_A_RUN: usize = 30_000;
 /// Large sites make shorter runs: one ends with the case that brings it to so many machines.
 const MACHINES_A_RUN: usize = 120_000;
 
+/// And so do plans whose lists are long: one ends with the case that brings these to so many numbers.
+const LISTED_A_RUN: usize = 2_000_000;
+
 /// How many runs of the program go on at a time.
 const RUNS_AT_A_TIME: usize = 2;
 
@@ -62,6 +69,7 @@ pub fn calls(classes: &[Class<Cases>], cmd: &str, args: &[&str]) {
             things: class.things,
             next: Vec::new(),
             machines: 0,
+            listed: 0,
             runs: VecDeque::new(),
             cases: 0,
             codes: Codes::default(),
@@ -83,9 +91,10 @@ pub fn calls(classes: &[Class<Cases>], cmd: &str, args: &[&str]) {
 struct Program {
     words: Vec<String>,
     things: &'static str,
-    /// The cases of the next run, and how many machines they have.
+    /// The cases of the next run, how many machines they have, and how many numbers the lists of their plans.
     next: Vec<Case>,
     machines: usize,
+    listed: usize,
     /// The runs that go on, the earliest first, each with the codes of its answers.
     runs: VecDeque<JoinHandle<Result<Codes, Failure>>>,
     cases: usize,
@@ -95,8 +104,12 @@ struct Program {
 impl Program {
     fn take(&mut self, case: Case) {
         self.machines += case.lent.up.len();
+        self.listed += case.letters.iter().map(Letter::listed).sum::<usize>();
         self.next.push(case);
-        if self.next.len() == CASES_A_RUN || self.machines >= MACHINES_A_RUN {
+        let full = self.next.len() == CASES_A_RUN
+            || self.machines >= MACHINES_A_RUN
+            || self.listed >= LISTED_A_RUN;
+        if full {
             self.run();
         }
     }
@@ -105,7 +118,7 @@ impl Program {
         self.wait(RUNS_AT_A_TIME - 1);
         let (words, things, before) = (self.words.clone(), self.things, self.cases);
         let cases = std::mem::take(&mut self.next);
-        self.machines = 0;
+        (self.machines, self.listed) = (0, 0);
         self.cases += cases.len();
         let run = thread::spawn(move || compare(&words, &cases, things, before));
         self.runs.push_back(run);

@@ -7,6 +7,9 @@
 
 mod answer;
 mod call_histories;
+mod call_long_plans;
+mod call_plans;
+mod call_random_plans;
 mod call_tables;
 mod call_trees;
 mod calls;
@@ -21,6 +24,7 @@ mod draft;
 mod file;
 mod large_sites;
 mod lent;
+mod plan;
 mod reached;
 mod reading;
 mod rules;
@@ -31,6 +35,7 @@ mod stand_in;
 mod stand_in_calls;
 mod text;
 mod verdict;
+mod writing;
 
 use std::io::{self, Read, Write};
 
@@ -38,7 +43,7 @@ use verdict::Failure;
 
 const USAGE: &str = "\
 usage: takeout compare [--classes small,random,damaged,large] CMD [ARG..]   CMD answers a stream of site files
-       takeout calls [--classes trees,small,histories,large,tables] CMD [ARG..]   CMD answers the text of trial
+       takeout calls [--classes trees,small,histories,plans,large,tables] CMD [ARG..]   CMD answers the text of trial
        takeout expect < SITE-FILE     what is to be printed for it
        takeout expect-calls < TEXT    the same
        takeout wrong [FAULT < STREAM]       a faulty program for compare; without a word the faults

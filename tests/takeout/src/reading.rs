@@ -4,6 +4,7 @@
 use crate::file::{check_link, check_numbers, check_size, check_tree, refuse, Refusal};
 use crate::lent::{line, Answer, Lent};
 use crate::rules::{least_breaking, Rule, RULES};
+use crate::writing::{Document02, Writing};
 
 /// A reading of document 01. Each stand-in has one part of its own in place of what is said here.
 pub trait Reading {
@@ -141,6 +142,11 @@ pub trait Reading {
     /// The total by which marks rose.
     fn rise(&self, before: &[usize], after: &[usize]) -> usize {
         after.iter().sum::<usize>() - before.iter().sum::<usize>()
+    }
+
+    /// The writer of site files, which has parts of its own.
+    fn writer(&self) -> &dyn Writing {
+        &Document02
     }
 }
 
