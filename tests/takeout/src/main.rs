@@ -33,6 +33,7 @@ mod shapes;
 mod sites;
 mod stand_in;
 mod stand_in_calls;
+mod stand_in_writers;
 mod text;
 mod verdict;
 mod writing;
@@ -48,6 +49,7 @@ usage: takeout compare [--classes small,random,damaged,large] CMD [ARG..]   CMD 
        takeout expect-calls < TEXT    the same
        takeout wrong [FAULT < STREAM]       a faulty program for compare; without a word the faults
        takeout wrong-calls [FAULT < TEXT]   the same for calls
+       takeout wrong-writers [FAULT < TEXT] the same for the plans of calls
 status: 0 all agreed, 1 a disagreement was printed, 2 nothing can be said";
 
 fn main() {
@@ -81,6 +83,11 @@ fn done(words: &[&str]) -> io::Result<()> {
         ["wrong", name] => {
             let faulty = stand_in::named(name);
             return stand_in::serve(faulty.unwrap_or_else(|| unknown(name)));
+        }
+        ["wrong-writers"] => println!("{}", stand_in_writers::names().join("\n")),
+        ["wrong-writers", name] => {
+            let faulty = stand_in_writers::named(name);
+            return stand_in_calls::serve(&*faulty.unwrap_or_else(|| unknown(name)));
         }
         ["wrong-calls"] => println!("{}", stand_in_calls::names().join("\n")),
         ["wrong-calls", name] => {

@@ -25,12 +25,12 @@ impl Plan {
         }
     }
 
-    /// The numbers of each batch, where the lengths add up.
+    /// The numbers of each batch. Where the lengths add up to more than there are, the last ones get what is left.
     pub fn batches(&self) -> Vec<&[usize]> {
         let mut rest = &self.links[..];
         let mut batches = Vec::new();
         for &length in &self.lengths {
-            let (batch, after) = rest.split_at(length);
+            let (batch, after) = rest.split_at(length.min(rest.len()));
             batches.push(batch);
             rest = after;
         }
