@@ -3,9 +3,9 @@
 use crate::call_plans::{about, bare, length};
 use crate::calls::Take;
 use crate::chance::Chance;
-use crate::cross_links::{links, numbers, FAR};
+use crate::cross_links::{numbers, FAR};
 use crate::file::{Link, BATCH_LIMIT, FILE_LIMIT, MACHINE_LIMIT};
-use crate::plan::Plan;
+use crate::plan::{Plan, Planned};
 use crate::shapes::{tree, RANDOM, SHUFFLED};
 
 pub fn all(take: Take) {
@@ -19,29 +19,26 @@ pub fn all(take: Take) {
 /// Files of 16,384 bytes, and of one more, with buffers of about that length.
 fn full_files(take: Take) {
     let mut chance = Chance::seeded(16);
-    let mut site = |n: usize, sizes: &[usize], byte: usize| {
-        let up = tree(RANDOM, SHUFFLED, n, &mut chance);
-        let batch = |&size: &usize| links(FAR, size, &up, &mut chance);
-        let batches: Vec<Vec<Link>> = sizes.iter().map(batch).collect();
-        (up, Plan::of(&batches, vec![byte; sizes.len()]))
-    };
-    let plans = [
-        site(1, &[0; 8_000], 1),
-        site(2, &[BATCH_LIMIT; 3], 255),
-        site(1_000, &[BATCH_LIMIT, BATCH_LIMIT, 200], 1),
-        site(MACHINE_LIMIT, &[818], 2),
+    let sorts: [(usize, &[usize]); 4] = [
+        (1, &[0; 8_000]),
+        (2, &[BATCH_LIMIT; 3]),
+        (1_000, &[BATCH_LIMIT, BATCH_LIMIT, 200]),
+        (MACHINE_LIMIT, &[818]),
     ];
-    for (up, mut plan) in plans {
-        let room = length(&up, &plan).map(|length| FILE_LIMIT - length);
+    for (n, sizes) in sorts {
+        let up = tree(RANDOM, SHUFFLED, n, &mut chance);
+        let planned = Planned::of_sizes(up, FAR, sizes, &mut chance);
+        let (up, mut plan) = (&planned.up, planned.plan());
+        let room = length(up, &plan).map(|length| FILE_LIMIT - length);
         // Each empty batch is a byte more.
         let batches = plan.lengths.len() + room.expect("its file is not refused with 13");
         plan.lengths.resize(batches, 0);
         plan.reports.resize(batches, 0);
-        take(about(&up, &plan, 0));
+        take(about(up, &plan, 0));
         plan.lengths.push(0);
         plan.reports.push(0);
         for room in [0, FILE_LIMIT, FILE_LIMIT + 1] {
-            take(bare(&up, &plan, &[room]));
+            take(bare(up, &plan, &[room]));
         }
     }
 }

@@ -3,8 +3,8 @@
 use crate::call_plans::{about, length, written};
 use crate::calls::Take;
 use crate::chance::Chance;
-use crate::cross_links::{links, MIXED};
-use crate::plan::{by_chance, Plan};
+use crate::cross_links::MIXED;
+use crate::plan::{Plan, Planned};
 use crate::shapes;
 
 pub fn all(take: Take) {
@@ -20,9 +20,8 @@ pub fn all(take: Take) {
 /// A plan of up to 40 machines, spoilt once in three times.
 fn random(take: Take, chance: &mut Chance) {
     let n = chance.between(1, 40);
-    let mut up = shapes::by_chance(n, chance);
-    let (batches, reports) = by_chance(&up, chance);
-    let mut plan = Plan::of(&batches, reports);
+    let planned = Planned::by_chance(n, chance);
+    let (mut up, mut plan) = (planned.up.clone(), planned.plan());
     if chance.once_in(3) {
         for _ in 0..chance.between(1, 2) {
             spoil(&mut up, &mut plan, chance);
@@ -40,7 +39,7 @@ fn random(take: Take, chance: &mut Chance) {
 }
 
 /// A buffer full of one byte, or of any.
-fn filled(room: usize, chance: &mut Chance) -> Vec<usize> {
+pub fn filled(room: usize, chance: &mut Chance) -> Vec<usize> {
     if chance.once_in(2) {
         return vec![chance.pick(&[0, 4, 5, 255]); room];
     }
@@ -77,9 +76,9 @@ fn spoil(up: &mut [usize], plan: &mut Plan, chance: &mut Chance) {
 fn large(take: Take, chance: &mut Chance) {
     let n = chance.between(200, 1_000);
     let up = shapes::by_chance(n, chance);
-    let batches: Vec<_> = (0..chance.between(1, 4))
-        .map(|_| links(MIXED, chance.below(300), &up, chance))
+    let sizes: Vec<usize> = (0..chance.between(1, 4))
+        .map(|_| chance.below(300))
         .collect();
-    let reports = batches.iter().map(|_| chance.below(256)).collect();
-    take(about(&up, &Plan::of(&batches, reports), 0));
+    let planned = Planned::of_sizes(up, MIXED, &sizes, chance);
+    take(about(&planned.up, &planned.plan(), 0));
 }

@@ -1,14 +1,12 @@
 //! Setting the calls against takeout's own reading, through the text of `trial`: every line printed is compared.
 
 use std::collections::VecDeque;
-use std::io::{self, Read, Write};
-use std::process::{Command, Stdio};
 use std::thread::{self, JoinHandle};
 
 use crate::class::{grouped, Class, Codes};
-use crate::reading::Document01;
+use crate::run::agreed;
 use crate::text::{Case, Letter};
-use crate::verdict::{judge, Failure, Verdict};
+use crate::verdict::Failure;
 use crate::{call_histories, call_plans, call_tables, call_trees};
 
 /// Takes each case that a generator makes.
@@ -120,7 +118,7 @@ impl Program {
         let cases = std::mem::take(&mut self.next);
         (self.machines, self.listed) = (0, 0);
         self.cases += cases.len();
-        let run = thread::spawn(move || compare(&words, &cases, things, before));
+        let run = thread::spawn(move || Ok(agreed(&words, &cases, things, before)?.codes));
         self.runs.push_back(run);
     }
 
@@ -143,75 +141,4 @@ impl Program {
         }
         failure.end()
     }
-}
-
-/// One run: a line for each case, and the codes of the answers.
-fn compare(
-    words: &[String],
-    cases: &[Case],
-    things: &str,
-    before: usize,
-) -> Result<Codes, Failure> {
-    let mut text = String::new();
-    let mut lines = Vec::new();
-    let mut codes = Codes::default();
-    for case in cases {
-        text += &(case.text() + "\n");
-        let (line, came) = case.printed(&Document01);
-        lines.push(line + "\n");
-        came.into_iter().for_each(|code| codes.count(code));
-    }
-    let length = lines.iter().map(String::len).sum();
-    let out = output(words, text, length)
-        .map_err(|error| Failure::Unable(format!("{}: {error}", words[0])))?;
-    let mut rest = &out[..];
-    for (place, (case, line)) in cases.iter().zip(&lines).enumerate() {
-        let end = rest.iter().position(|&byte| byte == b'\n');
-        let (came, after) = rest.split_at(end.map_or(rest.len(), |end| end + 1));
-        let place = format!("case {} of the {things}", grouped(before + place + 1));
-        match judge(line.as_bytes(), came) {
-            Verdict::Agrees => rest = after,
-            Verdict::BreaksOff => {
-                let why = format!("the program ended before its answer to {place} did");
-                return Err(Failure::Unable(why));
-            }
-            Verdict::Differs => {
-                let (text, came) = (case.text(), String::from_utf8_lossy(came));
-                let what = format!("{place}\n{text}\nexpected:\n{line}came:\n{came}");
-                return Err(Failure::Disagreement(what));
-            }
-        }
-    }
-    if !rest.is_empty() {
-        let more = String::from_utf8_lossy(rest);
-        let what = format!("more came after the last of the {things}:\n{more}");
-        return Err(Failure::Disagreement(what));
-    }
-    Ok(codes)
-}
-
-/// How much is taken beyond the length expected, to show, from a program that prints too much.
-const EXCESS: usize = 2_000;
-
-/// What a program prints for a text.
-fn output(words: &[String], text: String, expected: usize) -> io::Result<Vec<u8>> {
-    let mut child = Command::new(&words[0])
-        .args(&words[1..])
-        .stdin(Stdio::piped())
-        .stdout(Stdio::piped())
-        .spawn()?;
-    let mut stdin = child.stdin.take().expect("standard input is a pipe");
-    let stdout = child.stdout.take().expect("standard output is a pipe");
-    let mut stdout = stdout.take((expected + EXCESS) as u64);
-    // A program that stops reading shows by a missing answer.
-    let feeder = thread::spawn(move || {
-        let _ = stdin.write_all(text.as_bytes());
-    });
-    let mut out = Vec::new();
-    let read = stdout.read_to_end(&mut out);
-    // It may still be printing; what more would come says nothing, nor does how it ends.
-    let _ = child.kill();
-    let _ = child.wait();
-    let _ = feeder.join();
-    read.map(|_| out)
 }
