@@ -14,14 +14,21 @@ pub struct Told {
     pub choke: Option<Link>,
 }
 
+impl Told {
+    /// A report on the tree `up` with the links of these batches.
+    pub fn report(&mut self, up: &[usize], batches: &[Vec<Link>], search: Search) {
+        let links = batches.concat();
+        let chokes = search(up, &links);
+        self.lines += &report(up, &chokes);
+        self.taken_out += links.len();
+        self.choke = self.choke.or(chokes.cross_links.first().copied());
+    }
+}
+
 pub fn answer(site: &SiteFile, search: Search) -> Told {
     let mut told = Told::default();
-    for &links in &site.reports {
-        let links = &site.links[..links];
-        let chokes = search(&site.up, links);
-        told.lines += &report(&site.up, &chokes);
-        told.taken_out += links.len();
-        told.choke = told.choke.or(chokes.cross_links.first().copied());
+    for &closed in &site.reports {
+        told.report(&site.up, &site.batches[..closed], search);
     }
     if let Some(refusal) = site.refusal {
         told.lines += &format!("R {} {}\n", refusal.code, refusal.value);

@@ -2,7 +2,7 @@
 
 use crate::calls::Take;
 use crate::chance::Chance;
-use crate::cross_links::{links, Draw, DRAWS, MIXED};
+use crate::cross_links::{links, numbers, Draw, DRAWS, MIXED};
 use crate::file::{Link, BATCH_LIMIT, MACHINE_LIMIT};
 use crate::large_sites;
 use crate::lent::Lent;
@@ -116,10 +116,6 @@ fn batch(up: &[usize], draw: Draw, chance: &mut Chance) -> Vec<usize> {
         }
     }
     batch
-}
-
-fn numbers(links: &[Link]) -> Vec<usize> {
-    links.iter().flat_map(|&(a, b)| [a, b]).collect()
 }
 
 /// A batch, a report and every slice, on tables as they come.

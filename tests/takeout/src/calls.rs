@@ -1,15 +1,13 @@
 //! Setting the calls against takeout's own reading, through the text of `trial`: every line printed is compared.
 
 use std::collections::VecDeque;
-use std::io::{self, Read, Write};
-use std::process::{Command, Stdio};
 use std::thread::{self, JoinHandle};
 
 use crate::class::{grouped, Class, Codes};
-use crate::reading::Document01;
-use crate::text::Case;
-use crate::verdict::{judge, Failure, Verdict};
-use crate::{call_histories, call_tables, call_trees};
+use crate::run::agreed;
+use crate::text::{Case, Letter};
+use crate::verdict::Failure;
+use crate::{call_histories, call_plans, call_tables, call_trees};
 
 /// Takes each case that a generator makes.
 pub type Take<'a> = &'a mut dyn FnMut(Case);
@@ -17,7 +15,7 @@ pub type Take<'a> = &'a mut dyn FnMut(Case);
 /// Makes cases and hands each on.
 pub type Cases = fn(Take);
 
-pub const ALL: [Class<Cases>; 5] = [
+pub const ALL: [Class<Cases>; 6] = [
     Class {
         things: "trees and lengths",
         each: call_trees::all,
@@ -29,6 +27,10 @@ pub const ALL: [Class<Cases>; 5] = [
     Class {
         things: "histories by chance",
         each: call_histories::all,
+    },
+    Class {
+        things: "plans to write",
+        each: call_plans::all,
     },
     Class {
         things: "large sites",
@@ -46,6 +48,9 @@ const CASES_A_RUN: usize = 30_000;
 /// Large sites make shorter runs: one ends with the case that brings it to so many machines.
 const MACHINES_A_RUN: usize = 120_000;
 
+/// And so do plans whose lists are long: one ends with the case that brings these to so many numbers.
+const LISTED_A_RUN: usize = 2_000_000;
+
 /// How many runs of the program go on at a time.
 const RUNS_AT_A_TIME: usize = 2;
 
@@ -62,6 +67,7 @@ pub fn calls(classes: &[Class<Cases>], cmd: &str, args: &[&str]) {
             things: class.things,
             next: Vec::new(),
             machines: 0,
+            listed: 0,
             runs: VecDeque::new(),
             cases: 0,
             codes: Codes::default(),
@@ -83,9 +89,10 @@ pub fn calls(classes: &[Class<Cases>], cmd: &str, args: &[&str]) {
 struct Program {
     words: Vec<String>,
     things: &'static str,
-    /// The cases of the next run, and how many machines they have.
+    /// The cases of the next run, how many machines they have, and how many numbers the lists of their plans.
     next: Vec<Case>,
     machines: usize,
+    listed: usize,
     /// The runs that go on, the earliest first, each with the codes of its answers.
     runs: VecDeque<JoinHandle<Result<Codes, Failure>>>,
     cases: usize,
@@ -95,8 +102,12 @@ struct Program {
 impl Program {
     fn take(&mut self, case: Case) {
         self.machines += case.lent.up.len();
+        self.listed += case.letters.iter().map(Letter::listed).sum::<usize>();
         self.next.push(case);
-        if self.next.len() == CASES_A_RUN || self.machines >= MACHINES_A_RUN {
+        let full = self.next.len() == CASES_A_RUN
+            || self.machines >= MACHINES_A_RUN
+            || self.listed >= LISTED_A_RUN;
+        if full {
             self.run();
         }
     }
@@ -105,9 +116,9 @@ impl Program {
         self.wait(RUNS_AT_A_TIME - 1);
         let (words, things, before) = (self.words.clone(), self.things, self.cases);
         let cases = std::mem::take(&mut self.next);
-        self.machines = 0;
+        (self.machines, self.listed) = (0, 0);
         self.cases += cases.len();
-        let run = thread::spawn(move || compare(&words, &cases, things, before));
+        let run = thread::spawn(move || Ok(agreed(&words, &cases, things, before)?.codes));
         self.runs.push_back(run);
     }
 
@@ -130,75 +141,4 @@ impl Program {
         }
         failure.end()
     }
-}
-
-/// One run: a line for each case, and the codes of the answers.
-fn compare(
-    words: &[String],
-    cases: &[Case],
-    things: &str,
-    before: usize,
-) -> Result<Codes, Failure> {
-    let mut text = String::new();
-    let mut lines = Vec::new();
-    let mut codes = Codes::default();
-    for case in cases {
-        text += &(case.text() + "\n");
-        let (line, came) = case.printed(&Document01);
-        lines.push(line + "\n");
-        came.into_iter().for_each(|code| codes.count(code));
-    }
-    let length = lines.iter().map(String::len).sum();
-    let out = output(words, text, length)
-        .map_err(|error| Failure::Unable(format!("{}: {error}", words[0])))?;
-    let mut rest = &out[..];
-    for (place, (case, line)) in cases.iter().zip(&lines).enumerate() {
-        let end = rest.iter().position(|&byte| byte == b'\n');
-        let (came, after) = rest.split_at(end.map_or(rest.len(), |end| end + 1));
-        let place = format!("case {} of the {things}", grouped(before + place + 1));
-        match judge(line.as_bytes(), came) {
-            Verdict::Agrees => rest = after,
-            Verdict::BreaksOff => {
-                let why = format!("the program ended before its answer to {place} did");
-                return Err(Failure::Unable(why));
-            }
-            Verdict::Differs => {
-                let (text, came) = (case.text(), String::from_utf8_lossy(came));
-                let what = format!("{place}\n{text}\nexpected:\n{line}came:\n{came}");
-                return Err(Failure::Disagreement(what));
-            }
-        }
-    }
-    if !rest.is_empty() {
-        let more = String::from_utf8_lossy(rest);
-        let what = format!("more came after the last of the {things}:\n{more}");
-        return Err(Failure::Disagreement(what));
-    }
-    Ok(codes)
-}
-
-/// How much is taken beyond the length expected, to show, from a program that prints too much.
-const EXCESS: usize = 2_000;
-
-/// What a program prints for a text.
-fn output(words: &[String], text: String, expected: usize) -> io::Result<Vec<u8>> {
-    let mut child = Command::new(&words[0])
-        .args(&words[1..])
-        .stdin(Stdio::piped())
-        .stdout(Stdio::piped())
-        .spawn()?;
-    let mut stdin = child.stdin.take().expect("standard input is a pipe");
-    let stdout = child.stdout.take().expect("standard output is a pipe");
-    let mut stdout = stdout.take((expected + EXCESS) as u64);
-    // A program that stops reading shows by a missing answer.
-    let feeder = thread::spawn(move || {
-        let _ = stdin.write_all(text.as_bytes());
-    });
-    let mut out = Vec::new();
-    let read = stdout.read_to_end(&mut out);
-    // It may still be printing; what more would come says nothing, nor does how it ends.
-    let _ = child.kill();
-    let _ = child.wait();
-    let _ = feeder.join();
-    read.map(|_| out)
 }

@@ -1,15 +1,11 @@
 //! Setting the program under test against takeout's own answers, file by file.
 
-use std::io::{BufRead, BufReader, BufWriter, Read, Write};
-use std::process::{Child, ChildStdin, ChildStdout, Command, Stdio};
-use std::thread;
-
 use crate::answer::{answer, Told};
 use crate::class::{grouped, Class, Codes};
 use crate::draft::Visit;
 use crate::file::{self, SiteFile};
 use crate::search::chokes;
-use crate::verdict::{judge, Failure, Verdict};
+use crate::stream::Stream;
 use crate::{damaged_links, damaged_records, damaged_trees, large_sites, sites};
 
 /// Makes files and hands each on.
@@ -51,103 +47,24 @@ fn large(visit: Visit) {
 
 /// Feeds the files of the classes to a program and ends at the first answer that differs.
 pub fn compare(classes: &[Class<Files>], cmd: &str, args: &[&str]) {
-    let mut child = Command::new(cmd)
-        .args(args)
-        .stdin(Stdio::piped())
-        .stdout(Stdio::piped())
-        .spawn()
-        .unwrap_or_else(|error| Failure::Unable(format!("{cmd}: {error}")).end());
-    let stdin = child.stdin.take().expect("standard input is a pipe");
-    let stdout = child.stdout.take().expect("standard output is a pipe");
-    // Both sides make the files anew, so nothing is kept between them, and the program may read as far ahead of its answers
-    // as it likes without either side waiting for the other.
+    // Both sides make the files anew, so nothing is kept between them.
     let fed = classes.to_vec();
-    let feeder = thread::spawn(move || feed(&fed, stdin));
-    let mut out = BufReader::with_capacity(1 << 16, stdout);
+    let feed = move |visit: Visit| fed.iter().for_each(|class| (class.each)(visit));
+    let mut stream = Stream::of(cmd, args, feed);
     let mut agreed = String::new();
     for class in classes {
         let mut tally = Tally::default();
         (class.each)(&mut |bytes| {
             let site = file::read(bytes);
             let told = answer(&site, chokes);
-            let came = next_answer(&mut out, told.lines.len());
             let place = format!("file {} of the {}", grouped(tally.files + 1), class.things);
-            if let Some(failure) = failure(bytes, &told, &came, &place) {
-                end(&mut child, failure);
-            }
+            stream.next(bytes, &told, &place);
             tally.count(&site, &told);
         });
         agreed += &tally.line(class);
     }
-    let more = next_answer(&mut out, 0);
-    if !more.is_empty() {
-        let more = String::from_utf8_lossy(&more);
-        let what = format!("more came after the last answer:\n{more}");
-        end(&mut child, Failure::Disagreement(what));
-    }
-    // The program has ended its output; it is waited for, and how it ended says nothing.
-    let _ = feeder.join();
-    let _ = child.wait();
+    stream.ended();
     print!("{agreed}");
-}
-
-/// What is wrong with what came for a file, if anything is.
-fn failure(bytes: &[u8], told: &Told, came: &[u8], place: &str) -> Option<Failure> {
-    if let Some((a, b)) = told.choke {
-        return Some(Failure::Disagreement(format!(
-            "{place}: the cross link {a}, {b} is a choke, and none ever is\nfile: {}",
-            hex(bytes)
-        )));
-    }
-    let expected = told.lines.clone() + ".\n";
-    match judge(expected.as_bytes(), came) {
-        Verdict::Agrees => None,
-        Verdict::BreaksOff => Some(Failure::Unable(format!(
-            "the program ended before its answer to {place} did"
-        ))),
-        Verdict::Differs => Some(Failure::Disagreement(format!(
-            "{place}\n{}",
-            show(bytes, &expected, came)
-        ))),
-    }
-}
-
-/// Writes the stream. A program that stops reading shows by a missing answer.
-fn feed(classes: &[Class<Files>], stdin: ChildStdin) {
-    let mut stream = BufWriter::with_capacity(1 << 16, stdin);
-    for class in classes {
-        (class.each)(&mut |file| {
-            let length = u16::try_from(file.len()).expect("the stream gives lengths in 16 bits");
-            let _ = stream.write_all(&length.to_le_bytes());
-            let _ = stream.write_all(file);
-        });
-    }
-}
-
-/// Ends the program under test, which may be in the middle of the stream, and takeout with it.
-fn end(child: &mut Child, failure: Failure) -> ! {
-    let _ = child.kill();
-    let _ = child.wait();
-    failure.end()
-}
-
-/// How much is taken beyond the length expected, to show, from a program that does not end its answer.
-const EXCESS: usize = 2_000;
-
-/// The lines up to the dot that ends them; without it if the output ends before or the answer grows far too long.
-fn next_answer(out: &mut BufReader<ChildStdout>, expected: usize) -> Vec<u8> {
-    let limit = expected + EXCESS;
-    let mut came = Vec::new();
-    while came.len() < limit {
-        let start = came.len();
-        let room = (limit - start) as u64;
-        match out.by_ref().take(room).read_until(b'\n', &mut came) {
-            Ok(0) | Err(_) => break,
-            Ok(_) if came[start..] == *b".\n" => break,
-            Ok(_) => {}
-        }
-    }
-    came
 }
 
 /// What has agreed in a class.
@@ -178,25 +95,4 @@ impl Tally {
             self.codes.line()
         )
     }
-}
-
-/// A file and its two answers.
-fn show(bytes: &[u8], expected: &str, came: &[u8]) -> String {
-    let whole = came == b".\n" || came.ends_with(b"\n.\n");
-    let ended = if whole {
-        ""
-    } else {
-        "(and no line with a dot to end it)\n"
-    };
-    format!(
-        "file, {} bytes: {}\nexpected:\n{expected}came:\n{}{ended}",
-        bytes.len(),
-        hex(bytes),
-        String::from_utf8_lossy(came),
-    )
-}
-
-fn hex(bytes: &[u8]) -> String {
-    let hex: Vec<String> = bytes.iter().map(|byte| format!("{byte:02x}")).collect();
-    hex.join(" ")
 }

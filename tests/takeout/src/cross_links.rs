@@ -36,6 +36,11 @@ pub fn links(draw: Draw, count: usize, up: &[usize], chance: &mut Chance) -> Vec
     (0..count).map(|_| draw(up, chance)).collect()
 }
 
+/// The numbers of a batch: two for each link.
+pub fn numbers(links: &[Link]) -> Vec<usize> {
+    links.iter().flat_map(|&(a, b)| [a, b]).collect()
+}
+
 /// The link of two machines from an end by chance. Where they are one, its up stands in for the other, and a child for the hub's.
 fn either_way(up: &[usize], a: usize, b: usize, chance: &mut Chance) -> Link {
     let b = match b {

@@ -23,9 +23,9 @@ pub struct Refusal {
 #[derive(Default)]
 pub struct SiteFile {
     pub up: Vec<usize>,
-    /// The links of all closed batches, in the file's order.
-    pub links: Vec<Link>,
-    /// For each report, how many of `links` the site had by then. These numbers never fall.
+    /// The closed batches, in the file's order.
+    pub batches: Vec<Vec<Link>>,
+    /// For each report, how many of `batches` were closed by then. These numbers never fall.
     pub reports: Vec<usize>,
     pub refusal: Option<Refusal>,
 }
@@ -77,9 +77,7 @@ impl SiteFile {
             match kind {
                 1 => {
                     let n = number(body, 0);
-                    if n == 0 || n > MACHINE_LIMIT {
-                        return refuse(1, n);
-                    }
+                    check_size(n)?;
                     size = Some(n);
                 }
                 2 => {
@@ -90,15 +88,13 @@ impl SiteFile {
                 }
                 3 => {
                     open.push((number(body, 0), number(body, 1)));
-                    if open.len() > BATCH_LIMIT {
-                        return refuse(7, 2 * open.len());
-                    }
+                    check_numbers(2 * open.len())?;
                 }
                 4 => {
                     check_batch(&open, self.up.len())?;
-                    self.links.append(&mut open);
+                    self.batches.push(std::mem::take(&mut open));
                 }
-                _ => self.reports.push(self.links.len()),
+                _ => self.reports.push(self.batches.len()),
             }
             at += 1 + length;
         }
@@ -106,6 +102,14 @@ impl SiteFile {
             return refuse(10, file.len());
         }
         Ok(())
+    }
+}
+
+/// Code 1.
+pub fn check_size(n: usize) -> Result<(), Refusal> {
+    match n {
+        1..=MACHINE_LIMIT => Ok(()),
+        _ => refuse(1, n),
     }
 }
 
@@ -136,6 +140,14 @@ pub fn check_tree(up: &[usize]) -> Result<(), Refusal> {
         Some(machine) => refuse(5, machine),
         None => Ok(()),
     }
+}
+
+/// Code 7, of a batch of so many numbers.
+pub fn check_numbers(length: usize) -> Result<(), Refusal> {
+    if length % 2 == 1 || length > 2 * BATCH_LIMIT {
+        return refuse(7, length);
+    }
+    Ok(())
 }
 
 /// Codes 8 and 9, link by link, 8 first within a link.

@@ -3,10 +3,14 @@
 //! It shares no code with what it tests. It reads a site file by its own reader and finds the chokes by taking out each
 //! machine and each cable and searching what is left: another method, too. The three calls it has by a plain reading of
 //! document 01's marks, groups and rules, and it holds that reading to what taking out finds, and to the tables that it
-//! reaches by adding every link in turn.
+//! reaches by adding every link in turn. The writer of site files it has by document 02's words, and what is written is sent
+//! through both programs: what comes out has to be what taking out finds in the plans.
 
 mod answer;
 mod call_histories;
+mod call_long_plans;
+mod call_plans;
+mod call_random_plans;
 mod call_tables;
 mod call_trees;
 mod calls;
@@ -21,16 +25,22 @@ mod draft;
 mod file;
 mod large_sites;
 mod lent;
+mod plan;
 mod reached;
 mod reading;
 mod rules;
+mod run;
 mod search;
 mod shapes;
 mod sites;
 mod stand_in;
 mod stand_in_calls;
+mod stand_in_writers;
+mod stream;
 mod text;
 mod verdict;
+mod writing;
+mod written;
 
 use std::io::{self, Read, Write};
 
@@ -38,11 +48,14 @@ use verdict::Failure;
 
 const USAGE: &str = "\
 usage: takeout compare [--classes small,random,damaged,large] CMD [ARG..]   CMD answers a stream of site files
-       takeout calls [--classes trees,small,histories,large,tables] CMD [ARG..]   CMD answers the text of trial
+       takeout calls [--classes trees,small,histories,plans,large,tables] CMD [ARG..]   CMD answers the text of trial
+       takeout written CMD [ARG..] -- CMD [ARG..]   the first answers the text of trial, the second a stream of site files
        takeout expect < SITE-FILE     what is to be printed for it
-       takeout expect-calls < TEXT    the same
+       takeout expect-stream < STREAM the same for each file of a stream
+       takeout expect-calls < TEXT    the same for the text of trial
        takeout wrong [FAULT < STREAM]       a faulty program for compare; without a word the faults
        takeout wrong-calls [FAULT < TEXT]   the same for calls
+       takeout wrong-writers [FAULT < TEXT] the same for the plans of calls
 status: 0 all agreed, 1 a disagreement was printed, 2 nothing can be said";
 
 fn main() {
@@ -70,12 +83,29 @@ fn done(words: &[&str]) -> io::Result<()> {
         ["calls", cmd, ref args @ ..] if cmd != "--classes" => {
             calls::calls(&calls::ALL, cmd, args);
         }
+        ["written", ref both @ ..] => {
+            let mut programs = both
+                .splitn(2, |&word| word == "--")
+                .map(<[&str]>::split_first);
+            let (Some(Some((trial, args))), Some(Some((labels, others)))) =
+                (programs.next(), programs.next())
+            else {
+                unknown(&words.join(" "))
+            };
+            written::through((trial, args), (labels, others));
+        }
         ["expect"] => return expect(),
+        ["expect-stream"] => return stand_in::serve(lines),
         ["expect-calls"] => return stand_in_calls::serve(&reading::Document01),
         ["wrong"] => println!("{}", stand_in::names().join("\n")),
         ["wrong", name] => {
             let faulty = stand_in::named(name);
             return stand_in::serve(faulty.unwrap_or_else(|| unknown(name)));
+        }
+        ["wrong-writers"] => println!("{}", stand_in_writers::names().join("\n")),
+        ["wrong-writers", name] => {
+            let faulty = stand_in_writers::named(name);
+            return stand_in_calls::serve(&*faulty.unwrap_or_else(|| unknown(name)));
         }
         ["wrong-calls"] => println!("{}", stand_in_calls::names().join("\n")),
         ["wrong-calls", name] => {
@@ -87,12 +117,16 @@ fn done(words: &[&str]) -> io::Result<()> {
     Ok(())
 }
 
-/// Prints what `chokes` has to print for the site file on standard input.
+/// Prints the lines for the site file on standard input.
 fn expect() -> io::Result<()> {
     let mut bytes = Vec::new();
     io::stdin().read_to_end(&mut bytes)?;
-    let told = answer::answer(&file::read(&bytes), search::chokes);
-    io::stdout().write_all(told.lines.as_bytes())
+    io::stdout().write_all(lines(&bytes).as_bytes())
+}
+
+/// What `chokes` has to print for a site file.
+fn lines(bytes: &[u8]) -> String {
+    answer::answer(&file::read(bytes), search::chokes).lines
 }
 
 fn unknown(words: &str) -> ! {

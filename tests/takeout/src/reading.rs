@@ -1,15 +1,17 @@
 //! Document 01's three calls, by the plainest code that its words allow. Nothing is clever and nothing is quick: lines are
 //! climbed to the hub, groups are looked through whole.
 
-use crate::file::{check_link, check_tree, refuse, Refusal, BATCH_LIMIT, MACHINE_LIMIT};
+use crate::file::{check_link, check_numbers, check_size, check_tree, refuse, Refusal};
 use crate::lent::{line, Answer, Lent};
 use crate::rules::{least_breaking, Rule, RULES};
+use crate::writing::{Document02, Writing};
 
 /// A reading of document 01. Each stand-in has one part of its own in place of what is said here.
 pub trait Reading {
     /// A tree to fresh tables.
     fn start(&self, lent: &mut Lent) -> Answer {
-        let n = check_size(lent)?;
+        let n = lent.up.len();
+        check_size(n)?;
         self.check_lengths(n, &[&lent.depth, &lent.group, &lent.mark])?;
         check_tree(&lent.up)?;
         lent.depth = (0..n).map(|v| self.steps(&lent.up, v)).collect();
@@ -20,7 +22,8 @@ pub trait Reading {
 
     /// A batch of cross links.
     fn add(&self, lent: &mut Lent, batch: &[usize]) -> Answer {
-        let n = check_size(lent)?;
+        let n = lent.up.len();
+        check_size(n)?;
         self.check_lengths(n, &[&lent.depth, &lent.group, &lent.mark])?;
         check_tree(&lent.up)?;
         self.check_tables(lent)?;
@@ -34,7 +37,8 @@ pub trait Reading {
 
     /// Choke machines and choke uplinks.
     fn report(&self, lent: &mut Lent) -> Answer {
-        let n = check_size(lent)?;
+        let n = lent.up.len();
+        check_size(n)?;
         let slices = [
             &lent.depth,
             &lent.group,
@@ -74,9 +78,7 @@ pub trait Reading {
 
     /// Codes 7 to 9. The tables are lent for a stand-in that spoils them here.
     fn check_batch(&self, lent: &mut Lent, batch: &[usize]) -> Result<(), Refusal> {
-        if batch.len() % 2 == 1 || batch.len() > 2 * BATCH_LIMIT {
-            return refuse(7, batch.len());
-        }
+        check_numbers(batch.len())?;
         let n = lent.up.len();
         for (index, ends) in batch.chunks_exact(2).enumerate() {
             self.check_link(n, index, ends[0], ends[1])?;
@@ -141,23 +143,17 @@ pub trait Reading {
     fn rise(&self, before: &[usize], after: &[usize]) -> usize {
         after.iter().sum::<usize>() - before.iter().sum::<usize>()
     }
+
+    /// The writer of site files, which has parts of its own.
+    fn writer(&self) -> &dyn Writing {
+        &Document02
+    }
 }
 
 /// Takeout's own reading.
 pub struct Document01;
 
 impl Reading for Document01 {}
-
-/// Code 1; else n.
-fn check_size(lent: &Lent) -> Answer {
-    match lent.up.len() {
-        n @ 1..=MACHINE_LIMIT => Ok(n),
-        length => Err(Refusal {
-            code: 1,
-            value: length,
-        }),
-    }
-}
 
 fn machine_byte(lent: &Lent, w: usize) -> usize {
     let is_hub = lent.up[w] == w;

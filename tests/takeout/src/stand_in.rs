@@ -93,7 +93,8 @@ fn ten_for_twelve(file: &[u8]) -> String {
 /// The latest cross link is named as if it were a choke.
 fn cross_link_named(file: &[u8]) -> String {
     let site = file::read(file);
-    let named = site.links.last().map(|(a, b)| format!("L {a} {b}\n"));
+    let latest = site.batches.iter().flatten().last();
+    let named = latest.map(|(a, b)| format!("L {a} {b}\n"));
     named.unwrap_or_default() + &answer(&site, chokes).lines
 }
 

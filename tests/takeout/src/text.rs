@@ -1,6 +1,7 @@
 //! The text of `trial`: sites in brackets with the letters of what is done, written, read, and answered by a reading.
 
 use crate::lent::{Answer, Lent};
+use crate::plan::Plan;
 use crate::reading::Reading;
 
 /// What a letter asks for.
@@ -9,10 +10,27 @@ pub enum Letter {
     Start,
     Add(Vec<usize>),
     Report,
+    /// The site file of a plan over the site's tree, into a buffer.
+    Write {
+        plan: Plan,
+        buffer: Vec<usize>,
+    },
     /// Every table as it is then.
     Tables,
     /// The end of a line inside the brackets.
     Newline,
+}
+
+impl Letter {
+    /// How many numbers the lists of a plan and its buffer have.
+    pub fn listed(&self) -> usize {
+        match self {
+            Letter::Write { plan, buffer } => {
+                plan.links.len() + plan.lengths.len() + plan.reports.len() + buffer.len()
+            }
+            _ => 0,
+        }
+    }
 }
 
 /// A site in brackets.
@@ -51,10 +69,17 @@ impl Case {
         let mut line = String::new();
         let mut codes = Vec::new();
         for letter in &self.letters {
+            let mut after = String::new();
             let (word, answer) = match letter {
                 Letter::Start => ("start", reading.start(&mut lent)),
                 Letter::Add(batch) => ("add", reading.add(&mut lent, batch)),
                 Letter::Report => ("report", reading.report(&mut lent)),
+                Letter::Write { plan, buffer } => {
+                    let mut buffer = buffer.clone();
+                    let answer = reading.writer().write(&lent.up, plan, &mut buffer);
+                    after = table("buffer", &buffer);
+                    ("write", answer)
+                }
                 Letter::Tables => {
                     line += &tables(&lent);
                     continue;
@@ -65,7 +90,7 @@ impl Case {
                 }
             };
             let (code, value) = numbers_of(answer);
-            line += &format!(" {word} {code} {value}");
+            line += &format!(" {word} {code} {value}{after}");
             codes.push(code);
         }
         (line, codes)
@@ -88,11 +113,16 @@ fn tables(lent: &Lent) -> String {
         ("links", &lent.links),
     ]
     .into_iter()
-    .map(|(name, numbers)| match numbers[..] {
+    .map(|(name, numbers)| table(name, numbers))
+    .collect()
+}
+
+/// A name, and the numbers of a table behind it.
+fn table(name: &str, numbers: &[usize]) -> String {
+    match numbers {
         [] => format!("; {name}"),
         _ => format!("; {name} {}", with_commas(numbers)),
-    })
-    .collect()
+    }
 }
 
 fn letter(letter: &Letter) -> String {
@@ -100,6 +130,12 @@ fn letter(letter: &Letter) -> String {
         Letter::Start => "S".to_string(),
         Letter::Add(batch) => format!("A{}", list(batch)),
         Letter::Report => "R".to_string(),
+        Letter::Write { plan, buffer } => {
+            let lists = [&plan.links, &plan.lengths, &plan.reports, buffer];
+            lists
+                .into_iter()
+                .fold("W".to_string(), |text, numbers| text + &list(numbers))
+        }
         Letter::Tables => "T".to_string(),
         Letter::Newline => "\n".to_string(),
     }
@@ -172,12 +208,23 @@ impl Rest<'_> {
                 b'S' => letters.push(Letter::Start),
                 b'A' => letters.push(Letter::Add(self.list())),
                 b'R' => letters.push(Letter::Report),
+                b'W' => letters.push(self.write()),
                 b'T' => letters.push(Letter::Tables),
                 b'\n' => letters.push(Letter::Newline),
                 _ => {}
             }
         }
         Case { lent, letters }
+    }
+
+    fn write(&mut self) -> Letter {
+        let plan = Plan {
+            links: self.list(),
+            lengths: self.list(),
+            reports: self.list(),
+        };
+        let buffer = self.list();
+        Letter::Write { plan, buffer }
     }
 
     fn list(&mut self) -> Vec<usize> {
