@@ -5,8 +5,7 @@ use mathlib.Core.List.{List, [], _∷_}
 use Prim.Native.Nat.{ℕ, suc, _+_, _*_, _<_, _≤_}
 use native.Mathlib.Omega.{arith}
 use native.Mathlib.Numerals.{add-one}
-use lib.ListN.{length, drop, length-drop}
-use lib.Seq.{drop-cons}
+use lib.ListN.{length, drop}
 use lib.Dec.{leb, eqb}
 use Rattle.plain.specs.Table.{at}
 use Rattle.tables.specs.Batch.{pairs, endsVerdict}
@@ -14,6 +13,7 @@ use Rattle.tables.specs.Verdict.{checks}
 use Rattle.tables.specs.declared.Fault.{Fault}
 use Rattle.tables.specs.declared.Verdict.the-variants.{the-data as Verdict, Sound, Refused}
 use Rattle.tables.proofs.Verdicts.{passes, checks-one}
+use Rattle.tables.proofs.Pairing.{pairs-next, pairs-end}
 use Rattle.checks.proofs.Checking.{told, stops}
 
 link-then : (n i : ℕ) (p : ℕ × ℕ) (l : List (ℕ × ℕ)) → endsVerdict n i (p ∷ l) ≡ checks (endsVerdict n i (p ∷ []) ∷ endsVerdict n (suc i) l ∷ [])
@@ -34,20 +34,11 @@ pub record LinksPassed (n : ℕ) (batch : List ℕ) (i : ℕ) : Type 0 where
 pub passed-none : (n : ℕ) (batch : List ℕ) → LinksPassed n batch 0
 passed-none n batch = record { low = omega arith; rest = refl }
 
-no-pair : (l : List ℕ) → length l ≤ 1 → pairs l ≡ []
-unfolding pairs
-no-pair [] h = refl
-no-pair (a ∷ []) h = refl
-no-pair (a ∷ (b ∷ l)) h = absurd (omega arith)
-
 module _ {n : ℕ} {batch : List ℕ} {i : ℕ} (p : LinksPassed n batch i) where
   link-next : 2 * i + 1 < length batch → endsVerdict n 0 (pairs batch) ≡ checks (endsVerdict n i ((at batch (2 * i), at batch (2 * i + 1)) ∷ []) ∷ endsVerdict n (i + 1) (pairs (drop (2 * (i + 1)) batch)) ∷ [])
-  unfolding pairs
   link-next h =
-      let e : suc (2 * i) ≡ 2 * i + 1 = omega arith in
-      let f : suc (2 * i + 1) ≡ 2 * (i + 1) = omega arith in
-      let d : drop (2 * i) batch ≡ at batch (2 * i) ∷ at batch (2 * i + 1) ∷ drop (2 * (i + 1)) batch = rw (drop-cons batch (2 * i) 0 (omega arith), e, drop-cons batch (2 * i + 1) 0 h, f) in
-      p .rest ∙ rw (d, add-one i) (link-then n i _ _)
+      let f : 2 * i + 2 ≡ 2 * (i + 1) = omega arith in
+      p .rest ∙ rw (pairs-next batch (2 * i) h, f, add-one i) (link-then n i _ _)
 
   module _ {a b : ℕ} {c : Verdict} (h : 2 * i + 1 < length batch) (e : a ≡ at batch (2 * i)) (f : b ≡ at batch (2 * i + 1)) (g : c ≡ endsVerdict n i ((a, b) ∷ [])) where
     -- link i passes
@@ -60,4 +51,4 @@ module _ {n : ℕ} {batch : List ℕ} {i : ℕ} (p : LinksPassed n batch i) wher
 
   pub passed-all : length batch ≤ 2 * i + 1 → Sound ≡ endsVerdict n 0 (pairs batch)
   unfolding endsVerdict
-  passed-all h = sym (p .rest ∙ rw (no-pair (drop (2 * i) batch) (simp length-drop (omega arith))))
+  passed-all h = sym (p .rest ∙ rw (pairs-end batch (2 * i) h))

@@ -1,12 +1,20 @@
--- For loops that count up: what a search and a count keep, number by number.
+-- For loops that count up: what is left of a list, and what a search and a count keep, number by number.
 use mathlib.Core.Path.{_≡_, refl, sym, ap, _∙_}
 use mathlib.Core.Bool.{Bool, true, false, cond}
+use mathlib.Core.List.{List, _∷_}
 use Prim.Native.Nat.{ℕ, zero, suc, _+_, _<_, _≤_}
 use native.Mathlib.Numerals.{add-one}
 use native.Mathlib.Omega.{arith}
+use lib.ListN.{length, drop}
+use lib.Seq.{drop-cons}
 use borrow.Author.Count.{below-more}
 use Rattle.plain.specs.Search.{some, count}
+use Rattle.plain.specs.Table.{at}
 use Rattle.plain.proofs.Says.{Says, says-some, refutes, clash}
+
+-- what is left of a list from i on
+pub from-next : (l : List ℕ) (i : ℕ) → i < length l → drop i l ≡ at l i ∷ drop (i + 1) l
+from-next l i h = rw (drop-cons l i 0 h, add-one i)
 
 -- p fails for every number below i
 abbrev pub NoneBelow : (ℕ → Bool) → ℕ → Type 0

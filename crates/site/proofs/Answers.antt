@@ -31,7 +31,7 @@ module _ {A : Type 0} (came : A) (value : ℕ) (left : A) {c v : Verdict} {r : A
   unfolding judged
   refused e q a = rw (a, told e q, e) refl
 
-  accepted : c ≡ Sound → c ≡ v → r ≡ answerTo c value → outcome r left ≡ judged v came value left
+  pub accepted : c ≡ Sound → c ≡ v → r ≡ answerTo c value → outcome r left ≡ judged v came value left
   unfolding judged
   accepted e q a = rw (a, told e q, e) refl
 

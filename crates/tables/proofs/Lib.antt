@@ -1,6 +1,7 @@
 pub mod Verdicts
 pub mod Lengths
 pub mod OneOutcome
+pub mod Pairing
 pub mod Climb
 pub mod Sound
 pub mod Lines

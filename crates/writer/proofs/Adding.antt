@@ -8,6 +8,7 @@ use lib.ListN.{length, take, drop, drop-of-length-le}
 use lib.Dec.{eqb}
 use borrow.Author.Tests.{eq-eqb, ne-eqb, not-true, not-false}
 use Rattle.plain.specs.Table.{at, total}
+use Rattle.plain.proofs.Loops.{from-next}
 use Rattle.tables.specs.declared.Fault.{Fault}
 use Rattle.tables.specs.declared.Verdict.the-variants.{the-data as Verdict, Sound, Refused}
 use Rattle.tables.specs.Verdict.{checks}
@@ -15,7 +16,7 @@ use Rattle.tables.specs.Batch.{batchVerdict}
 use Rattle.tables.proofs.Verdicts.{passes, refuses, checks-one}
 use Rattle.writer.specs.Plan.{planOf}
 use Rattle.writer.specs.Written.{partsVerdict, batchesVerdict}
-use Rattle.writer.proofs.Planning.{from-next, planFrom, plan-next, plan-end, Cut, uncut, cut-inside, cut-next}
+use Rattle.writer.proofs.Planning.{planFrom, plan-next, plan-end, Cut, uncut, cut-inside, cut-next}
 
 same : (a b k : ℕ) → a + k ≡ b → eqb k 0 ≡ eqb a b
 same a b zero e = sym (eq-eqb a b (omega arith))

@@ -6,3 +6,5 @@ pub mod Measuring
 pub mod Filling
 pub mod Recording
 pub mod WholeFile
+pub mod Back
+pub mod Different

@@ -10,6 +10,7 @@ use lib.Seq.{length-take-le, getD-drop, drop-drop}
 use lib.Dec.{leb, eqb}
 use borrow.Author.Tests.{eq-eqb, ne-eqb, le-leb, lt-leb, leb-true}
 use Rattle.plain.specs.Table.{at, total}
+use Rattle.plain.proofs.Loops.{from-next}
 use Rattle.plain.proofs.Says.{by-cases}
 use Rattle.tables.specs.declared.Fault.{Fault}
 use Rattle.tables.specs.declared.Verdict.the-variants.{the-data as Verdict, Sound, Refused}
@@ -21,7 +22,6 @@ use Rattle.turns.specs.Printed.{mostBytes}
 use Rattle.writer.specs.Plan.{closeRecords, planOf, uplinkRecords, linkRecords, batchRecords, planRecords, fileOf}
 use Rattle.writer.specs.Written.{roomVerdict}
 use Rattle.writer.specs.Filling.{BatchLength, planLength, Measured}
-use Rattle.writer.proofs.Planning.{from-next}
 
 -- a batch and its close
 module _ (numbers report : ℕ) (h : numbers < 2 ^ 16) where

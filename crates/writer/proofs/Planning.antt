@@ -5,18 +5,15 @@ use mathlib.Core.Bool.{not}
 use mathlib.Core.List.{List, [], _∷_, _++_}
 use Prim.Native.Nat.{ℕ, suc, _+_, _*_, _/_, _<_, _≤_}
 use native.Mathlib.Omega.{arith}
-use native.Mathlib.Numerals.{add-one}
 use lib.ListN.{length, take, drop, length-append, length-drop, drop-of-length-le}
-use lib.Seq.{drop-cons, drop-drop, getD-drop}
+use lib.Seq.{drop-drop, getD-drop}
 use lib.Dec.{eqb}
 use Rattle.plain.specs.Table.{at, total}
+use Rattle.plain.proofs.Loops.{from-next}
 use Rattle.tables.specs.Batch.{pairs}
+use Rattle.tables.proofs.Pairing.{pairs-next, pairs-end}
 use Rattle.sitefile.specs.Record.{words, recordOf}
 use Rattle.writer.specs.Plan.{Batch, planOf, uplinkRecords, linkRecords, closeRecords, batchRecords, planRecords, fileOf}
-
--- what is left of a list from j on
-pub from-next : (l : List ℕ) (j : ℕ) → j < length l → drop j l ≡ at l j ∷ drop (j + 1) l
-from-next l j h = rw (drop-cons l j 0 h, add-one j)
 
 pub uplinks-next : (up : List ℕ) (v : ℕ) → v < length up → uplinkRecords (drop v up) ≡ recordOf 2 (at up v ∷ []) ++ uplinkRecords (drop (v + 1) up)
 unfolding uplinkRecords
@@ -26,22 +23,14 @@ pub uplinks-end : (up : List ℕ) (v : ℕ) → length up ≤ v → uplinkRecord
 unfolding uplinkRecords
 uplinks-end up v h = rw (drop-of-length-le up h)
 
-no-pair : (l : List ℕ) → length l ≤ 1 → pairs l ≡ []
-unfolding pairs
-no-pair [] h = refl
-no-pair (a ∷ []) h = refl
-no-pair (a ∷ b ∷ l) h = absurd (omega arith)
-
 pub links-next : (batch : List ℕ) (i : ℕ) → i + 1 < length batch
     → linkRecords (pairs (drop i batch)) ≡ recordOf 3 (at batch i ∷ at batch (i + 1) ∷ []) ++ linkRecords (pairs (drop (i + 2) batch))
-unfolding pairs linkRecords
-links-next batch i h =
-    let e : i + 1 + 1 ≡ i + 2 = omega arith in
-    rw (from-next batch i (omega arith), from-next batch (i + 1) h, e)
+unfolding linkRecords
+links-next batch i h = rw (pairs-next batch i h)
 
 pub links-end : (batch : List ℕ) (i : ℕ) → length batch ≤ i + 1 → linkRecords (pairs (drop i batch)) ≡ []
 unfolding linkRecords
-links-end batch i h = rw (no-pair (drop i batch) (omega (arith, length-drop i batch)))
+links-end batch i h = rw (pairs-end batch i h)
 
 -- the batches from b on take the links from `from` on
 abbrev pub planFrom : List ℕ → List ℕ → List ℕ → ℕ → ℕ → List Batch

@@ -10,7 +10,8 @@ use lib.Dec.{eqb}
 use borrow.Author.Tests.{lt-ltb, le-ltb, eq-eqb, le-leb}
 use Rattle.plain.proofs.Tabulate.{length-tabulate}
 use Rattle.plain.proofs.Says.{says-and, says-eq, says-le}
-use Rattle.tables.specs.declared.Verdict.the-variants.{the-data as Verdict, Sound}
+use Rattle.graph.proofs.Members.{empty}
+use Rattle.tables.specs.declared.Verdict.the-variants.{Sound}
 use Rattle.tables.specs.Verdict.{checks}
 use Rattle.tables.specs.Tree.{aloneVerdict, treeVerdict, sizeVerdict}
 use Rattle.tables.specs.Tables.{Tables, fresh}
@@ -146,3 +147,18 @@ module _ (file up : List ℕ) where
         ] in
         links-go (tables up h) (closeRecords (b .report) ++ planRecords plan) ns [] place refl even (omega arith) (here ∙ append-assoc (linkRecords (pairs ns)) (closeRecords (b .report)) (planRecords plan)) (λ place′ here′.
         close-goes (cond (b .report) (recordOf 5 []) [] ++ planRecords plan) h l ns place′ good here′ (ahead (b .report)))
+
+-- the whole file, from its first record
+pub file-goes : (up : List ℕ) (plan : List Batch) → aloneVerdict up ≡ Sound → batchesVerdict (length up) plan ≡ Sound
+    → Goes (fileOf up plan) begin up (acts plan) (reportsOf up [] plan)
+unfolding aloneVerdict fileOf size words bodyLength leaves
+file-goes up plan alone good =
+    let file : List ℕ = fileOf up plan in
+    let (few, (tree, _)) = all-sound _ alone in
+    let some : 0 < length up = size-exact (length up) .0 few .0 in
+    let l : Lived up [] = record { tree = alone; batches = λ b i. absurd (empty i) } in
+    let rest : List ℕ = uplinkRecords up ++ planRecords plan in
+    let here : drop 0 file ≡ recordOf 1 (length up ∷ []) ++ rest = append-assoc (recordOf 1 (length up ∷ [])) (uplinkRecords up) (planRecords plan) in
+    let s : step file begin ≡ reads (growing up [] (behind 0 1)) = size-read file begin (length up) rest here refl ∙ rw few in
+    reading s refl
+    (uplinks-go file up tree (planRecords plan) (λ place there. batches-go file up some plan [] place l good there) up [] (behind 0 1) refl some (behind-is file begin 1 (length up ∷ []) rest refl here))

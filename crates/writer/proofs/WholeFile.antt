@@ -15,6 +15,7 @@ use Rattle.tables.specs.Outcome.{outcome, judged}
 use Rattle.tables.proofs.Verdicts.{all-sound, unless-sound}
 use Rattle.tables.proofs.Lengths.{size-exact}
 use Rattle.checks.proofs.Checking.{told}
+use Rattle.site.proofs.Answers.{accepted as answered}
 use Rattle.turns.specs.Printed.{mostBytes}
 use Rattle.writer.specs.Plan.{Batch, planOf, treeRecords, planRecords, fileOf}
 use Rattle.writer.specs.Written.{partsVerdict, batchesVerdict, planVerdict, roomVerdict, writeVerdict, writeOf}
@@ -74,8 +75,8 @@ module _ {c : Verdict} (up links lengths reports out : List ℕ) (e : c ≡ Soun
 
   pub written : {r : Answer} {out′ : List ℕ} {len : ℕ} → Fills (fileOf up (planOf links lengths reports)) out out′ len → r ≡ answerTo c len
       → outcome r out′ ≡ writeOf up links lengths reports out
-  unfolding writeOf judged
-  written f a = rw (a, told e q, e, f .filled, f .number)
+  unfolding writeOf
+  written f a = rw (f .filled) (answered out _ _ e q (a ∙ ap (answerTo c) (f .number)))
 
 -- the tree, then the batches
 module _ {up links lengths reports before : List ℕ} (w : Writable up links lengths reports before) where

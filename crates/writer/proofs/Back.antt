@@ -1,0 +1,32 @@
+-- What a call that is done wrote is the file of its plan, and the reader goes from its first record to its end.
+use mathlib.Core.Path.{_≡_, refl, ap, _∙_}
+use mathlib.Core.List.{List, []}
+use Prim.Native.Nat.{ℕ}
+use lib.ListN.{length}
+use Rattle.plain.specs.Laid.{laid}
+use Rattle.plain.proofs.Laid.{take-laid}
+use Rattle.site.proofs.Callers.{answer-sound}
+use Rattle.writer.specs.Plan.{planOf, fileOf}
+use Rattle.writer.specs.Written.{writeVerdict, writeOf}
+use Rattle.writer.specs.Statements.{front, ReadBack, PrintedBack}
+use Rattle.writer.proofs.WholeFile.{Accepted, accepted}
+use Rattle.writer.proofs.Going.{goes-says, goes-prints}
+use Rattle.writer.proofs.ReadingBack.{file-goes}
+
+pub front-is : (up links lengths reports out : List ℕ) → (let r = writeOf up links lengths reports out in
+    r .answer .code ≡ 0 → Accepted up links lengths reports (length out) × (front r ≡ fileOf up (planOf links lengths reports)))
+unfolding writeOf
+front-is up links lengths reports out z =
+    let file = fileOf up (planOf links lengths reports) in
+    let (v, n, l) = answer-sound out (length file) (laid file out) (writeVerdict up links lengths reports (length out)) refl z in
+    (accepted up links lengths reports (length out) v, rw (n, l) (take-laid file out))
+
+pub read-back : ReadBack
+read-back up links lengths reports out z =
+    let (a, f) = front-is up links lengths reports out z in
+    rw f (goes-says (a .short) (file-goes up (planOf links lengths reports) (a .tree) (a .batches)))
+
+pub printed-back : PrintedBack
+printed-back up links lengths reports out z =
+    let (a, f) = front-is up links lengths reports out z in
+    rw f (goes-prints (a .short) (file-goes up (planOf links lengths reports) (a .tree) (a .batches)))
