@@ -1,4 +1,4 @@
-// Runs the three calls on the sites of a text, and prints what came. The text is on standard input: a site stands in brackets, and what is outside
+// Runs the calls on the sites of a text, and prints what came. The text is on standard input: a site stands in brackets, and what is outside
 // them is printed as it is.
 mod calls;
 mod print;
