@@ -8,3 +8,4 @@ pub mod Recording
 pub mod WholeFile
 pub mod Back
 pub mod Different
+pub mod Worked
