@@ -1,10 +1,12 @@
 -- What a call that is done wrote is the file of its plan, and the reader goes from its first record to its end.
 use mathlib.Core.Path.{_≡_, refl, ap, _∙_}
 use mathlib.Core.List.{List, []}
-use Prim.Native.Nat.{ℕ}
+use Prim.Native.Nat.{ℕ, _≤_}
 use lib.ListN.{length}
 use Rattle.plain.specs.Laid.{laid}
-use Rattle.plain.proofs.Laid.{take-laid}
+use Rattle.plain.proofs.Laid.{take-laid, laid-whole}
+use Rattle.tables.specs.declared.Answer.{Answer}
+use Rattle.tables.specs.Outcome.{outcome}
 use Rattle.site.proofs.Callers.{answer-sound}
 use Rattle.writer.specs.Plan.{planOf, fileOf}
 use Rattle.writer.specs.Written.{writeVerdict, writeOf}
@@ -30,3 +32,11 @@ pub printed-back : PrintedBack
 printed-back up links lengths reports out z =
     let (a, f) = front-is up links lengths reports out z in
     rw f (goes-prints (a .short) (file-goes up (planOf links lengths reports) (a .tree) (a .batches)))
+
+-- for callers: a file that was written stands inside the buffer
+pub inside : {a : Answer} {out′ : List ℕ} (up links lengths reports out : List ℕ) → outcome a out′ ≡ writeOf up links lengths reports out → a .code ≡ 0 → a .value ≤ length out′
+unfolding writeOf
+inside up links lengths reports out e z =
+    let file = fileOf up (planOf links lengths reports) in
+    let (_, n, l) = answer-sound out (length file) (laid file out) (writeVerdict up links lengths reports (length out)) e z in
+    rw (n, l) (laid-whole file out)

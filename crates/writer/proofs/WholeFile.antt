@@ -4,10 +4,12 @@ use mathlib.Core.List.{List, [], _∷_, _++_}
 use Prim.Native.Nat.{ℕ, _+_, _*_, _^_, _<_, _≤_}
 use native.Mathlib.Omega.{arith}
 use lib.ListN.{length}
+use lib.Dec.{leb}
 use Rattle.plain.specs.Table.{total}
 use Rattle.plain.specs.Laid.{laid}
 use Rattle.plain.proofs.Says.{says-and, says-eq, says-le}
 use Rattle.tables.specs.declared.Answer.{Answer}
+use Rattle.tables.specs.declared.Fault.{Fault}
 use Rattle.tables.specs.declared.Verdict.the-variants.{the-data as Verdict, Sound}
 use Rattle.tables.specs.Answer.{answerTo}
 use Rattle.tables.specs.Tree.{mostMachines, aloneVerdict}
@@ -38,7 +40,7 @@ same-sum numbers lengths reports e q = parts-told numbers lengths reports e q .1
 module _ {c : Verdict} (n : ℕ) (links lengths reports : List ℕ) (e : c ≡ Sound) (q : c ≡ planVerdict n links lengths reports) where
   plan-told : (length reports ≡ length lengths) × (total lengths ≡ length links)
   unfolding planVerdict
-  plan-told = parts-told _ _ _ (all-sound _ (told e q) .0) refl
+  plan-told = let a = all-sound _ (told e q) in parts-told (length links) lengths (length reports) (search a) refl
 
   pub same-parts : length reports ≡ length lengths
   same-parts = plan-told .0
@@ -61,11 +63,21 @@ pub record Accepted (up links lengths reports : List ℕ) (room : ℕ) : Type 0 
 pub accepted : (up links lengths reports : List ℕ) (room : ℕ) → writeVerdict up links lengths reports room ≡ Sound → Accepted up links lengths reports room
 unfolding writeVerdict planVerdict roomVerdict
 accepted up links lengths reports room e =
-    let (t, (w, (r, _))) = all-sound _ e in
-    let (p, (b, _)) = all-sound _ w in
-    let (s, (f, _)) = all-sound _ r in
-    let (k, m) = parts-told _ _ _ p refl in
-    record { tree = t; parts = k; sum = m; batches = b; short = says-le _ _ .gives (unless-sound _ _ _ s); fits = says-le _ _ .gives (unless-sound _ _ _ f) }
+    let plan = planOf links lengths reports in
+    let a = all-sound _ e in
+    let p : planVerdict (length up) links lengths reports ≡ Sound = search a in
+    let r : roomVerdict (length (fileOf up plan)) room ≡ Sound = search a in
+    let b = all-sound _ p in
+    let f = all-sound _ r in
+    let (k, m) = parts-told (length links) lengths (length reports) (search b) refl in
+    record {
+      tree = search a;
+      parts = k;
+      sum = m;
+      batches = search b;
+      short = says-le _ _ .gives (unless-sound (leb (length (fileOf up plan)) mostBytes) Fault.Long mostBytes (search f));
+      fits = says-le _ _ .gives (unless-sound (leb (length (fileOf up plan)) room) Fault.Short (length (fileOf up plan)) (search f));
+    }
 
 module _ {c : Verdict} (up links lengths reports out : List ℕ) (e : c ≡ Sound) (q : c ≡ writeVerdict up links lengths reports (length out)) where
   pub writable : Writable up links lengths reports out
