@@ -3,15 +3,14 @@
 use mathlib.Core.Path.{_≡_, refl, sym, ap, _∙_}
 use mathlib.Core.Bool.{true}
 use mathlib.Core.List.{List, [], _∷_, _++_}
-use Prim.Native.Nat.{ℕ, _+_, _-_, _*_, _/_, _%_, _<_, _≤_}
+use Prim.Native.Nat.{ℕ, _+_, _-_, _*_, _/_, _%_}
 use native.Mathlib.Omega.{arith}
-use lib.ListN.{length, take, drop, length-append, length-drop}
+use lib.ListN.{length, drop, length-append, length-drop}
 use lib.Seq.{getD-drop, drop-drop, drop-at, take-at}
 use borrow.Author.Tests.{lt-leb, le-leb, lt-ltb, le-ltb}
 use Rattle.plain.specs.Table.{at}
-use Rattle.sitefile.specs.Record.{known, bodyLength, whole, bodyOf, word, words, recordOf}
+use Rattle.sitefile.specs.Record.{known, bodyLength, whole, bodyOf, words, recordOf}
 use Rattle.sitefile.specs.File.{Read, ends, readerOf, closed, inPlace, asked, behind, dueOf, size, uplink, link, close, report, done, step}
-use Rattle.sitefile.specs.declared.due.Due.the-variants as due
 
 -- a number is its two bytes
 two-bytes : (n : ℕ) → n % 256 + 256 * (n / 256) ≡ n

@@ -1,6 +1,6 @@
 -- What a call that is done wrote is the file of its plan, and the reader goes from its first record to its end.
-use mathlib.Core.Path.{_≡_, refl, ap, _∙_}
-use mathlib.Core.List.{List, []}
+use mathlib.Core.Path.{_≡_, refl}
+use mathlib.Core.List.{List}
 use Prim.Native.Nat.{ℕ, _≤_}
 use lib.ListN.{length}
 use Rattle.plain.specs.Laid.{laid}

@@ -8,11 +8,10 @@ use native.Mathlib.Omega.{arith}
 use lib.ListN.{length, take, drop, length-drop, take-append-drop}
 use lib.Seq.{length-take-le}
 use lib.Dec.{eqb}
-use Rattle.plain.specs.Table.{at, total}
+use Rattle.plain.specs.Table.{total}
 use Rattle.writer.specs.Plan.{Batch, planOf}
-use Rattle.writer.specs.Said.{Act, adds, asks, says}
-use Rattle.writer.specs.Statements.{acts, SameInput, NeverTheSame}
-use Rattle.writer.proofs.WholeFile.{Accepted}
+use Rattle.writer.specs.Said.{Act, asks, says}
+use Rattle.writer.specs.Statements.{acts, NeverTheSame}
 use Rattle.writer.proofs.Back.{front-is, read-back}
 
 same-batch : (b c : Batch) → b .numbers ≡ c .numbers → b .report ≡ c .report → b ≡ c

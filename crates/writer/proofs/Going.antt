@@ -1,6 +1,6 @@
 -- The reader goes from record to record to the end of a file. What it says and prints on its way adds up, and each record takes a byte, so that more
 -- turns than the file has bytes are enough: what the file says and what is printed for it are just that.
-use mathlib.Core.Path.{_≡_, refl, subst, ap}
+use mathlib.Core.Path.{_≡_, subst, ap}
 use mathlib.Core.Bool.{true, false}
 use mathlib.Core.List.{List, [], _∷_, _++_}
 use Prim.Native.Nat.{ℕ, zero, suc, _-_, _<_, _≤_}

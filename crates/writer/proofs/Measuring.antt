@@ -1,9 +1,9 @@
 -- The length of the file, summed up batch by batch: 3 bytes for n and for each machine, 5 for each link, one or two for the close. A sum that has passed the
 -- most that a file may have only grows, so that it may stop there.
-use mathlib.Core.Path.{_≡_, refl, sym, ap, _∙_}
-use mathlib.Core.Bool.{Bool, true, false, not}
+use mathlib.Core.Path.{_≡_, refl}
+use mathlib.Core.Bool.{not}
 use mathlib.Core.List.{List, [], _∷_, _++_}
-use Prim.Native.Nat.{ℕ, suc, _+_, _*_, _/_, _%_, _^_, _<_, _≤_}
+use Prim.Native.Nat.{ℕ, _+_, _*_, _/_, _^_, _<_, _≤_}
 use native.Mathlib.Omega.{arith}
 use lib.ListN.{length, take, drop, length-append, length-drop, drop-of-length-le}
 use lib.Seq.{length-take-le, getD-drop, drop-drop}
@@ -13,13 +13,13 @@ use Rattle.plain.specs.Table.{at, total}
 use Rattle.plain.proofs.Loops.{from-next}
 use Rattle.plain.proofs.Says.{by-cases}
 use Rattle.tables.specs.declared.Fault.{Fault}
-use Rattle.tables.specs.declared.Verdict.the-variants.{the-data as Verdict, Sound, Refused}
+use Rattle.tables.specs.declared.Verdict.the-variants.{Sound, Refused}
 use Rattle.tables.specs.Verdict.{checks}
 use Rattle.tables.specs.Tree.{mostMachines}
 use Rattle.tables.specs.Batch.{pairs}
 use Rattle.sitefile.specs.Record.{words}
 use Rattle.turns.specs.Printed.{mostBytes}
-use Rattle.writer.specs.Plan.{closeRecords, planOf, uplinkRecords, linkRecords, batchRecords, planRecords, fileOf}
+use Rattle.writer.specs.Plan.{closeRecords, planOf, uplinkRecords, linkRecords, planRecords, fileOf}
 use Rattle.writer.specs.Written.{roomVerdict}
 use Rattle.writer.specs.Filling.{BatchLength, planLength, Measured}
 

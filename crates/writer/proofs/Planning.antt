@@ -1,19 +1,19 @@
 -- What is left of a plan, number by number as the loops go: the uplinks from machine v on, the links from number i on, the batches from b on, whose links begin
 -- where those before them end.
-use mathlib.Core.Path.{_≡_, refl, sym, ap, _∙_}
+use mathlib.Core.Path.{_≡_}
 use mathlib.Core.Bool.{not}
 use mathlib.Core.List.{List, [], _∷_, _++_}
-use Prim.Native.Nat.{ℕ, suc, _+_, _*_, _/_, _<_, _≤_}
+use Prim.Native.Nat.{ℕ, _+_, _<_, _≤_}
 use native.Mathlib.Omega.{arith}
-use lib.ListN.{length, take, drop, length-append, length-drop, drop-of-length-le}
+use lib.ListN.{length, take, drop, drop-of-length-le}
 use lib.Seq.{drop-drop, getD-drop}
 use lib.Dec.{eqb}
 use Rattle.plain.specs.Table.{at, total}
 use Rattle.plain.proofs.Loops.{from-next}
 use Rattle.tables.specs.Batch.{pairs}
 use Rattle.tables.proofs.Pairing.{pairs-next, pairs-end}
-use Rattle.sitefile.specs.Record.{words, recordOf}
-use Rattle.writer.specs.Plan.{Batch, planOf, uplinkRecords, linkRecords, closeRecords, batchRecords, planRecords, fileOf}
+use Rattle.sitefile.specs.Record.{recordOf}
+use Rattle.writer.specs.Plan.{Batch, planOf, uplinkRecords, linkRecords}
 
 pub uplinks-next : (up : List ℕ) (v : ℕ) → v < length up → uplinkRecords (drop v up) ≡ recordOf 2 (at up v ∷ []) ++ uplinkRecords (drop (v + 1) up)
 unfolding uplinkRecords
@@ -37,7 +37,7 @@ abbrev pub planFrom : List ℕ → List ℕ → List ℕ → ℕ → ℕ → Lis
 planFrom links lengths reports from b = planOf (drop from links) (drop b lengths) (drop b reports)
 
 -- batch b, which takes the links from `from` on
-abbrev pub batchAt : List ℕ → List ℕ → List ℕ → ℕ → ℕ → Batch
+abbrev batchAt : List ℕ → List ℕ → List ℕ → ℕ → ℕ → Batch
 batchAt links lengths reports from b = record { numbers = take (at lengths b) (drop from links); report = not (eqb (at reports b) 0) }
 
 module _ (links lengths reports : List ℕ) (from b : ℕ) where

@@ -1,25 +1,22 @@
 -- The reader over a written file. Each record stands where the one before it ended, so what is still to be read is always the records that were
 -- written last; and over the tables of a history that lived no good batch and no report is refused.
-use mathlib.Core.Path.{_≡_, refl, sym, ap, subst, _∙_}
+use mathlib.Core.Path.{_≡_, refl, sym, ap, _∙_}
 use mathlib.Core.Bool.{Bool, true, false, cond}
 use mathlib.Core.List.{List, [], _∷_, _++_, append-nil, append-assoc}
 use Prim.Native.Nat.{ℕ, _+_, _*_, _%_, _<_, _≤_}
 use native.Mathlib.Omega.{arith}
 use lib.ListN.{length, drop, length-append}
-use lib.Dec.{eqb}
-use borrow.Author.Tests.{lt-ltb, le-ltb, eq-eqb, le-leb}
+use borrow.Author.Tests.{lt-ltb, le-ltb, eq-eqb}
 use Rattle.plain.proofs.Tabulate.{length-tabulate}
-use Rattle.plain.proofs.Says.{says-and, says-eq, says-le}
 use Rattle.graph.proofs.Members.{empty}
 use Rattle.tables.specs.declared.Verdict.the-variants.{Sound}
-use Rattle.tables.specs.Verdict.{checks}
-use Rattle.tables.specs.Tree.{aloneVerdict, treeVerdict, sizeVerdict}
+use Rattle.tables.specs.Tree.{aloneVerdict, treeVerdict}
 use Rattle.tables.specs.Tables.{Tables, fresh}
 use Rattle.tables.specs.Batch.{mostLinks, pairs, numbersVerdict, batchVerdict}
 use Rattle.tables.specs.History.{History, Lived, leaves, tables, links}
 use Rattle.tables.specs.Report.{Bytes, bytesOf, machineBytes, linkBytes}
 use Rattle.tables.specs.Outcome.{addVerdict, addOf, reportVerdict, reportOf}
-use Rattle.tables.proofs.Verdicts.{all-sound, unless-sound}
+use Rattle.tables.proofs.Verdicts.{all-sound}
 use Rattle.tables.proofs.Lengths.{size-exact}
 use Rattle.tables.proofs.Calls.{calls-live, limits, lived-more}
 use Rattle.tables.proofs.Histories.{only-links}
@@ -27,7 +24,7 @@ use Rattle.tables.proofs.Demand2.{demand2}
 use Rattle.site.proofs.Callers.{answer-sound}
 use Rattle.text.specs.Text.{reportText}
 use Rattle.sitefile.specs.Record.{bodyLength, words, recordOf}
-use Rattle.sitefile.specs.File.{Read, FileStep, reads, reports, none, begin, readerOf, closed, inPlace, behind, unlessRefused, size, uplink, link, close, report, step}
+use Rattle.sitefile.specs.File.{Read, reads, reports, none, begin, readerOf, inPlace, behind, size, uplink, link, close, report, step}
 use Rattle.sitefile.proofs.Encoded.{behind-is, kind-is, size-read, uplink-read, link-read, close-read, report-read, end-read}
 use Rattle.writer.specs.Plan.{Batch, uplinkRecords, linkRecords, closeRecords, planRecords, fileOf}
 use Rattle.writer.specs.Written.{batchesVerdict}

@@ -1,25 +1,23 @@
 -- The whole file: the tree, then the batches. Checks that have passed tell that there is room for both; and the answer is that of the checks.
 use mathlib.Core.Path.{_≡_, refl, sym, ap, _∙_}
-use mathlib.Core.List.{List, [], _∷_, _++_}
+use mathlib.Core.List.{List, _++_}
 use Prim.Native.Nat.{ℕ, _+_, _*_, _^_, _<_, _≤_}
-use native.Mathlib.Omega.{arith}
 use lib.ListN.{length}
 use lib.Dec.{leb}
 use Rattle.plain.specs.Table.{total}
-use Rattle.plain.specs.Laid.{laid}
 use Rattle.plain.proofs.Says.{says-and, says-eq, says-le}
 use Rattle.tables.specs.declared.Answer.{Answer}
 use Rattle.tables.specs.declared.Fault.{Fault}
 use Rattle.tables.specs.declared.Verdict.the-variants.{the-data as Verdict, Sound}
 use Rattle.tables.specs.Answer.{answerTo}
 use Rattle.tables.specs.Tree.{mostMachines, aloneVerdict}
-use Rattle.tables.specs.Outcome.{outcome, judged}
+use Rattle.tables.specs.Outcome.{outcome}
 use Rattle.tables.proofs.Verdicts.{all-sound, unless-sound}
 use Rattle.tables.proofs.Lengths.{size-exact}
 use Rattle.checks.proofs.Checking.{told}
 use Rattle.site.proofs.Answers.{accepted as answered}
 use Rattle.turns.specs.Printed.{mostBytes}
-use Rattle.writer.specs.Plan.{Batch, planOf, treeRecords, planRecords, fileOf}
+use Rattle.writer.specs.Plan.{planOf, treeRecords, planRecords, fileOf}
 use Rattle.writer.specs.Written.{partsVerdict, batchesVerdict, planVerdict, roomVerdict, writeVerdict, writeOf}
 use Rattle.writer.specs.Filling.{Fills, Planned, Writable, planLength, Measured}
 use Rattle.writer.proofs.Filling.{free, back, first-room, second-inside, second-room, second-fits, second-done}

@@ -1,6 +1,5 @@
 -- `lengths::room` meets its contract: 13 is looked at before 14.
 use Rattle.writer.proofs.Measuring.{too-long, too-short, fits}
-use borrow.Author.Needs.{needs}
 use Rattle.writer.proofs.lengths.room.Statement.{statement}
 use Rattle.writer.proofs.lengths.room.Tie as tie
 
