@@ -1,7 +1,7 @@
 pub mod Going
 pub mod ReadingBack
 pub mod Planning
-pub mod Adding
+pub mod BatchByBatch
 pub mod Measuring
 pub mod Filling
 pub mod Recording

@@ -22,14 +22,13 @@ use Rattle.tables.proofs.Calls.{calls-live, limits, lived-more}
 use Rattle.tables.proofs.Histories.{only-links}
 use Rattle.tables.proofs.Demand2.{demand2}
 use Rattle.site.proofs.Callers.{answer-sound}
-use Rattle.text.specs.Text.{reportText}
 use Rattle.sitefile.specs.Record.{bodyLength, words, recordOf}
 use Rattle.sitefile.specs.File.{Read, reads, reports, none, begin, readerOf, inPlace, behind, size, uplink, link, close, report, step}
 use Rattle.sitefile.proofs.Encoded.{behind-is, kind-is, size-read, uplink-read, link-read, close-read, report-read, end-read}
 use Rattle.writer.specs.Plan.{Batch, uplinkRecords, linkRecords, closeRecords, planRecords, fileOf}
 use Rattle.writer.specs.Written.{batchesVerdict}
 use Rattle.writer.specs.Said.{Act, adds, asks}
-use Rattle.writer.specs.Statements.{acts, reportsOf}
+use Rattle.writer.specs.Statements.{acts, reportOn, reportsOf}
 use Rattle.writer.proofs.Going.{Goes, ended, reading, closing, asking}
 
 -- over the tables of a history that lived, a good batch is added, and a report is made
@@ -118,7 +117,7 @@ module _ (file up : List ℕ) where
 
       -- a report is made
       report-goes : (place : ℕ) → drop place file ≡ recordOf 5 [] ++ post → Onward file up said text post (standing up (tables up h) [])
-          → Goes file (standing up (tables up h) [] place) up (asks ∷ said) (reportText up (bytesOf (machineBytes up (tables up h)) (linkBytes up (tables up h))) ++ text)
+          → Goes file (standing up (tables up h) [] place) up (asks ∷ said) (reportOn up h ++ text)
       unfolding report words bodyLength machineBytes linkBytes
       report-goes place here go =
           let r = standing up (tables up h) [] place in
@@ -128,6 +127,13 @@ module _ (file up : List ℕ) where
           let s : step file r ≡ reports (standing up (tables up h) [] (behind place 5)) o = report-read file r post here fits ∙ rw v in
           asking s (go (behind place 5) (behind-is file r 5 [] post refl here))
 
+      -- a report where one is asked, or none
+      asked-goes : (b : Bool) → Onward file up said text post (standing up (tables up h) [])
+          → Onward file up (cond b (asks ∷ []) [] ++ said) (cond b (reportOn up h) [] ++ text) (cond b (recordOf 5 []) [] ++ post) (standing up (tables up h) [])
+      unfolding words
+      asked-goes true go place here = report-goes place here go
+      asked-goes false go place here = go place here
+
     -- batch after batch to the end
     batches-go : (plan : List Batch) (h : History) (place : ℕ) → Lived up h → batchesVerdict (length up) plan ≡ Sound → drop place file ≡ planRecords plan
         → Goes file (standing up (tables up h) [] place) up (acts plan) (reportsOf up h plan)
@@ -135,15 +141,15 @@ module _ (file up : List ℕ) where
     batches-go [] h place l v here = ended (end-read file (standing up (tables up h) [] place) here (rw (grown-is (tables up h) [] place)))
     batches-go (b ∷ plan) h place l v here =
         let ns : List ℕ = b .numbers in
-        let (good, (rest, _)) = all-sound (batchVerdict (length up) ns ∷ batchesVerdict (length up) plan ∷ []) v in
+        let h′ : History = h ++ (ns ∷ []) in
+        let rest : List ℕ = planRecords plan in
+        let close : List ℕ = closeRecords (b .report) in
+        let asked : List ℕ = cond (b .report) (recordOf 5 []) [] in
+        let (good, (later, _)) = all-sound (batchVerdict (length up) ns ∷ batchesVerdict (length up) plan ∷ []) v in
         let (even, few) = limits .links (length ns) .0 (all-sound _ good .0) in
-        let m : Lived up (h ++ (ns ∷ [])) = lived-more ns l good in
-        let ahead : (b₀ : Bool) → Onward file up (cond b₀ (asks ∷ []) [] ++ acts plan) (cond b₀ (reportText up (bytesOf (machineBytes up (tables up (h ++ (ns ∷ [])))) (linkBytes up (tables up (h ++ (ns ∷ [])))))) [] ++ reportsOf up (h ++ (ns ∷ [])) plan) (cond b₀ (recordOf 5 []) [] ++ planRecords plan) (standing up (tables up (h ++ (ns ∷ []))) []) = λ b₀. elim b₀ [
-          | true ↦ λ place′ here′. report-goes (planRecords plan) (h ++ (ns ∷ [])) m place′ here′ (λ place″ here″. batches-go plan (h ++ (ns ∷ [])) place″ m rest here″)
-          | false ↦ λ place′ here′. batches-go plan (h ++ (ns ∷ [])) place′ m rest here′
-        ] in
-        links-go (tables up h) (closeRecords (b .report) ++ planRecords plan) ns [] place refl even (omega arith) (here ∙ append-assoc (linkRecords (pairs ns)) (closeRecords (b .report)) (planRecords plan)) (λ place′ here′.
-        close-goes (cond (b .report) (recordOf 5 []) [] ++ planRecords plan) h l ns place′ good here′ (ahead (b .report)))
+        let m : Lived up h′ = lived-more ns l good in
+        links-go (tables up h) (close ++ rest) ns [] place refl even (omega arith) (here ∙ append-assoc (linkRecords (pairs ns)) close rest) λ place′ here′.
+        close-goes (asked ++ rest) h l ns place′ good here′ (asked-goes rest h′ m (b .report) λ place″ here″. batches-go plan h′ place″ m later here″)
 
 -- the whole file, from its first record
 pub file-goes : (up : List ℕ) (plan : List Batch) → aloneVerdict up ≡ Sound → batchesVerdict (length up) plan ≡ Sound

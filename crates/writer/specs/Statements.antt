@@ -43,13 +43,14 @@ NeverTheSame = (up links lengths reports out up′ links′ lengths′ reports�
     let r′ = writeOf up′ links′ lengths′ reports′ out′ in
     r .answer .code ≡ 0 → r′ .answer .code ≡ 0 → front r ≡ front r′ → SameInput up links lengths reports up′ links′ lengths′ reports′)
 
+-- the text of a report on the tables that a history leaves
+abbrev pub reportOn : List ℕ → History → List ℕ
+reportOn up h = reportText up (bytesOf (machineBytes up (tables up h)) (linkBytes up (tables up h)))
+
 -- the reports that a plan asks for, one after another: each on the tables that the history leaves by then, with h before the plan
 unfoldable pub reportsOf : List ℕ → History → List Batch → List ℕ
 reportsOf up h [] = []
-reportsOf up h (b ∷ plan) =
-    let h′ = h ++ (b .numbers ∷ []) in
-    let t = tables up h′ in
-    cond (b .report) (reportText up (bytesOf (machineBytes up t) (linkBytes up t))) [] ++ reportsOf up h′ plan
+reportsOf up h (b ∷ plan) = let h′ = h ++ (b .numbers ∷ []) in cond (b .report) (reportOn up h′) [] ++ reportsOf up h′ plan
 
 -- PRINTED: what is printed for it is the reports of the history, and never a refusal
 abbrev pub PrintedBack : Type 0

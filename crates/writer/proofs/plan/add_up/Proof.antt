@@ -1,7 +1,7 @@
 -- `plan::add_up` meets its contract. The loop's invariant: the lengths from b on add up to what is left just where all add up to the numbers.
 use Prim.Native.Nat.{_-_}
 use lib.ListN.{length}
-use Rattle.writer.proofs.Adding.{Left, left-all, left-less, left-short, left-end}
+use Rattle.writer.proofs.BatchByBatch.{Left, left-all, left-less, left-short, left-end}
 use borrow.Author.Needs.{needs}
 use Rattle.writer.proofs.plan.add_up.Statement.{statement}
 use Rattle.writer.proofs.plan.add_up.Tie as tie

@@ -1,7 +1,7 @@
 -- `plan::batches` meets its contract. The loop's invariant: every batch before b passed, so the verdict is that of the batches from b on.
 use Prim.Native.Nat.{_-_}
 use lib.ListN.{length}
-use Rattle.writer.proofs.Adding.{Passed, passed-none, passed-more, passed-all, refused, batch-inside, batch-fits}
+use Rattle.writer.proofs.BatchByBatch.{Passed, passed-none, passed-more, passed-all, refused, batch-inside, batch-fits}
 use borrow.Author.Needs.{needs}
 use Rattle.writer.proofs.plan.batches.Statement.{statement}
 use Rattle.writer.proofs.plan.batches.Tie as tie

@@ -1,5 +1,5 @@
 -- `plan::parts` meets its contract: as many reports as lengths, then their sum.
-use Rattle.writer.proofs.Adding.{odd-parts, wrong-sum, right-sum}
+use Rattle.writer.proofs.BatchByBatch.{odd-parts, wrong-sum, right-sum}
 use borrow.Author.Needs.{needs}
 use Rattle.writer.proofs.plan.parts.Statement.{statement}
 use Rattle.writer.proofs.plan.parts.Tie as tie

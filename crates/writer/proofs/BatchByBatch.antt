@@ -1,4 +1,4 @@
--- The checks of a plan, batch by batch: what is left of the numbers once a length is taken off, and batches that pass.
+-- A plan is checked batch by batch: a length is taken off what is left of the numbers, and a batch that passes hands on to the batches after it.
 use mathlib.Core.Path.{_≡_, refl, sym, _∙_}
 use mathlib.Core.Bool.{Bool, true, false, not}
 use mathlib.Core.List.{List, [], _∷_}
