@@ -31,14 +31,18 @@ back place now part = take place now ++ (part ++ drop (length now - place) (drop
 free-is : (place : ℕ) (now : List ℕ) → free place now ≡ drop place now
 free-is place now = take-all (length now - place) (drop place now) (omega (arith, length-drop place now))
 
-module _ {whole before now : List ℕ} {place : ℕ} (piece rest : List ℕ) (w : Writing whole (piece ++ rest) before now place) where
+-- what is left begins with a piece
+module _ {whole left before now : List ℕ} {place : ℕ} (w : Writing whole left before now place) (piece rest : List ℕ) (e : left ≡ piece ++ rest) where
   inside : place + length piece + length rest ≤ length now
-  inside = omega (arith, w .next, w .size, w .room, length-append piece rest)
+  inside = omega (arith, w .next, w .size, w .room, ap length e, length-append piece rest)
 
   pub piece-room : length piece ≤ length (free place now)
   piece-room = omega (arith, inside, ap length (free-is place now), length-drop place now)
 
   module _ {part : List ℕ} {k : ℕ} (f : Fills piece (free place now) part k) where
+    pub piece-fits : length before < 2 ^ 64 → place + k < 2 ^ 64
+    piece-fits b = omega (arith, inside, w .size, f .number)
+
     came : back place now part ≡ (take place now ++ piece) ++ drop (length piece) (drop place now)
     came =
         let e : drop (length now - place) (drop place now) ≡ [] = drop-of-length-le (drop place now) {i = length now - place} (omega (arith, length-drop place now)) in
@@ -53,37 +57,35 @@ module _ {whole before now : List ℕ} {place : ℕ} (piece rest : List ℕ) (w 
         let y : List ℕ = drop (length piece) (drop place now) in
         let d : drop (length (piece ++ rest)) (drop place now) ≡ drop (length rest) y =
         ap (λ n. drop n (drop place now)) (length-append piece rest) ∙ sym (drop-drop (length rest) (length piece) (drop place now)) in
+        let l : take place now ++ laid (piece ++ rest) (drop place now) ≡ laid whole before = rw e at (w .left) in
         record {
-          next = omega (arith, w .next, f .number, length-append piece rest);
+          next = omega (arith, w .next, f .number, ap length e, length-append piece rest);
           size = ap length came ∙ omega (arith, w .size, inside, front-size, f .number, length-append x y, length-drop (length piece) (drop place now), length-drop place now);
           room = w .room;
           left = rw (came, take-at x y (place + k) front-size, drop-at x y (place + k) front-size)
-              (append-assoc (take place now) piece (laid rest y) ∙ ap (λ l. take place now ++ l) (sym (append-assoc piece rest (drop (length rest) y)) ∙ ap (λ l. (piece ++ rest) ++ l) (sym d)) ∙ w .left);
+              (append-assoc (take place now) piece (laid rest y) ∙ ap (λ l. take place now ++ l) (sym (append-assoc piece rest (drop (length rest) y)) ∙ ap (λ l. (piece ++ rest) ++ l) (sym d)) ∙ l);
         }
 
-    pub piece-fits : length before < 2 ^ 64 → place + k < 2 ^ 64
-    piece-fits b = omega (arith, inside, w .size, f .number)
-
--- nothing is left to write
-pub all-written : {whole before now : List ℕ} {place : ℕ} → Writing whole [] before now place → Fills whole before now place
-all-written {whole} {before} {now} {place} w = record { filled = sym (take-append-drop place now) ∙ w .left; number = omega (arith, w .next) }
+-- nothing is left
+pub all-written : {whole left before now : List ℕ} {place : ℕ} → Writing whole left before now place → left ≡ [] → Fills whole before now place
+all-written {whole} {left} {before} {now} {place} w e =
+    let l : take place now ++ laid [] (drop place now) ≡ laid whole before = rw e at (w .left) in
+    record { filled = sym (take-append-drop place now) ∙ l; number = omega (arith, w .next, ap length e) }
 
 -- the last piece is all that is left
 module _ {whole piece before now : List ℕ} {place : ℕ} (w : Writing whole piece before now place) where
-  some-left : Writing whole (piece ++ []) before now place
-  some-left = rw (append-nil piece) w
-
   pub last-inside : place ≤ length now
-  last-inside = omega (arith, inside piece [] some-left)
+  last-inside = omega (arith, w .next, w .size, w .room)
 
   pub last-room : length piece ≤ length (free place now)
-  last-room = piece-room piece [] some-left
+  last-room = piece-room w piece [] (sym (append-nil piece))
 
-  pub last-fits : {part : List ℕ} {k : ℕ} → length before < 2 ^ 64 → Fills piece (free place now) part k → place + k < 2 ^ 64
-  last-fits b f = piece-fits piece [] some-left f b
+  module _ {part : List ℕ} {k : ℕ} (f : Fills piece (free place now) part k) where
+    pub last-fits : length before < 2 ^ 64 → place + k < 2 ^ 64
+    last-fits b = piece-fits w piece [] (sym (append-nil piece)) f b
 
-  pub last-written : {part : List ℕ} {k : ℕ} → Fills piece (free place now) part k → Fills whole before (back place now part) (place + k)
-  last-written f = all-written (piece-next piece [] some-left f)
+    pub last-written : Fills whole before (back place now part) (place + k)
+    last-written = all-written (piece-next w piece [] (sym (append-nil piece)) f) refl
 
 -- two pieces: the first goes into the whole buffer, the second behind it
 pub first-room : (piece rest l : List ℕ) → length (piece ++ rest) ≤ length l → length piece ≤ length l
@@ -110,7 +112,7 @@ module _ (piece rest : List ℕ) {before now : List ℕ} {k : ℕ} (h : length (
 
   module _ {part : List ℕ} {m : ℕ} (g : Fills rest (free k now) part m) where
     pub second-fits : length before < 2 ^ 64 → k + m < 2 ^ 64
-    second-fits b = last-fits first-written b g
+    second-fits b = last-fits first-written g b
 
     pub second-done : Fills (piece ++ rest) before (back k now part) (k + m)
     second-done = last-written first-written g

@@ -1,5 +1,5 @@
 -- Records written one behind the other: kind 2 for each machine, kind 3 for each link, batch after batch.
-use mathlib.Core.Path.{_≡_, ap, subst}
+use mathlib.Core.Path.{_≡_, ap}
 use mathlib.Core.Bool.{not}
 use mathlib.Core.List.{List, [], _∷_, _++_}
 use Prim.Native.Nat.{ℕ, _+_, _-_, _^_, _<_, _≤_}
@@ -12,54 +12,22 @@ use Rattle.tables.specs.Batch.{pairs}
 use Rattle.sitefile.specs.Record.{words, recordOf}
 use Rattle.writer.specs.Plan.{planOf, uplinkRecords, treeRecords, linkRecords, closeRecords, planRecords}
 use Rattle.writer.specs.Filling.{Fills, Planned}
-use Rattle.writer.proofs.Planning.{uplinks-next, uplinks-end, links-next, links-end, planFrom, plan-next, plan-end, Cut, uncut, cut-inside, cut-next}
+use Rattle.writer.proofs.Planning.{uplinks-next, links-next, planFrom, plan-next, plan-end, Cut, uncut, cut-inside, cut-next}
 use Rattle.writer.proofs.Filling.{Writing, begun, free, back, piece-room, piece-fits, piece-next, all-written, last-inside, last-room, last-fits, last-written, first-room, first-written}
 
--- what is left to write, in other words
-reworded : {whole rest rest′ before now : List ℕ} {place : ℕ} → rest ≡ rest′ → Writing whole rest before now place → Writing whole rest′ before now place
-reworded {whole} {before = before} {now} {place} e w = subst (λ r. Writing whole r before now place) e w
+-- room for the next record
+pub uplink-room : (up : List ℕ) (v : ℕ) {whole before now : List ℕ} {place : ℕ} → Writing whole (uplinkRecords (drop v up)) before now place → v < length up → 3 ≤ length (free place now)
+unfolding words
+uplink-room up v w h = piece-room w (recordOf 2 (at up v ∷ [])) (uplinkRecords (drop (v + 1) up)) (uplinks-next up v h)
 
-module _ (up : List ℕ) (v : ℕ) {out₀ out : List ℕ} {place : ℕ} (w : Writing (uplinkRecords up) (uplinkRecords (drop v up)) out₀ out place) where
-  pub uplinks-done : length up ≤ v → Fills (uplinkRecords up) out₀ out place
-  uplinks-done h = all-written (reworded (uplinks-end up v h) w)
+pub link-room : (batch : List ℕ) (i : ℕ) {whole before now : List ℕ} {place : ℕ} → Writing whole (linkRecords (pairs (drop i batch))) before now place → i + 1 < length batch
+    → 5 ≤ length (free place now)
+unfolding words
+link-room batch i w h = piece-room w (recordOf 3 (at batch i ∷ at batch (i + 1) ∷ [])) (linkRecords (pairs (drop (i + 2) batch))) (links-next batch i h)
 
-  module _ (h : v < length up) where
-    pub uplink-room : 3 ≤ length (free place out)
-    unfolding words
-    uplink-room = piece-room (recordOf 2 (at up v ∷ [])) (uplinkRecords (drop (v + 1) up)) (reworded (uplinks-next up v h) w)
-
-    pub uplink-fits : {part : List ℕ} {k : ℕ} → length out₀ < 2 ^ 64 → Fills (recordOf 2 (at up v ∷ [])) (free place out) part k → place + k < 2 ^ 64
-    uplink-fits b f = piece-fits (recordOf 2 (at up v ∷ [])) (uplinkRecords (drop (v + 1) up)) (reworded (uplinks-next up v h) w) f b
-
-    pub uplink-next : {part : List ℕ} {k : ℕ} → Fills (recordOf 2 (at up v ∷ [])) (free place out) part k
-        → Writing (uplinkRecords up) (uplinkRecords (drop (v + 1) up)) out₀ (back place out part) (place + k)
-    uplink-next f = piece-next (recordOf 2 (at up v ∷ [])) (uplinkRecords (drop (v + 1) up)) (reworded (uplinks-next up v h) w) f
-
--- n stands before them
 pub size-room : (up before : List ℕ) → length (treeRecords up) ≤ length before → 3 ≤ length before
 unfolding words
 size-room up before h = first-room (recordOf 1 (length up ∷ [])) (uplinkRecords up) before h
-
-module _ (batch : List ℕ) (i : ℕ) {out₀ out : List ℕ} {place : ℕ} (w : Writing (linkRecords (pairs batch)) (linkRecords (pairs (drop i batch))) out₀ out place) where
-  pub links-done : length batch ≤ i + 1 → Fills (linkRecords (pairs batch)) out₀ out place
-  links-done h = all-written (reworded (links-end batch i h) w)
-
-  module _ (h : i + 1 < length batch) where
-    abbrev piece : List ℕ
-    piece = recordOf 3 (at batch i ∷ at batch (i + 1) ∷ [])
-
-    abbrev rest : List ℕ
-    rest = linkRecords (pairs (drop (i + 2) batch))
-
-    pub link-room : 5 ≤ length (free place out)
-    unfolding words
-    link-room = piece-room piece rest (reworded (links-next batch i h) w)
-
-    pub link-fits : {part : List ℕ} {k : ℕ} → length out₀ < 2 ^ 64 → Fills piece (free place out) part k → place + k < 2 ^ 64
-    link-fits b f = piece-fits piece rest (reworded (links-next batch i h) w) f b
-
-    pub link-next : {part : List ℕ} {k : ℕ} → Fills piece (free place out) part k → Writing (linkRecords (pairs batch)) rest out₀ (back place out part) (place + k)
-    link-next f = piece-next piece rest (reworded (links-next batch i h) w) f
 
 -- the close of a batch: kind 4 alone, or kind 5 behind it
 module _ {report : ℕ} {before now : List ℕ} {k : ℕ} (f : Fills (recordOf 4 []) before now k) where
@@ -82,7 +50,7 @@ module _ {report : ℕ} {before now : List ℕ} {k : ℕ} (f : Fills (recordOf 4
 
     module _ {part : List ℕ} {m : ℕ} (g : Fills (recordOf 5 []) (free k now) part m) where
       pub close-fits : length before < 2 ^ 64 → k + m < 2 ^ 64
-      close-fits b = last-fits close-left b g
+      close-fits b = last-fits close-left g b
 
       pub close-done : Fills (closeRecords (not (eqb report 0))) before (back k now part) (k + m)
       close-done = last-written close-left g
@@ -102,7 +70,7 @@ module _ {links lengths reports before now : List ℕ} {place from b : ℕ} (l :
 
   pub batches-done : length lengths ≤ b → Fills (planRecords (planOf links lengths reports)) before now place
   unfolding planRecords
-  batches-done h = all-written (reworded (ap planRecords (plan-end links lengths reports from b h)) (l .left))
+  batches-done h = all-written (l .left) (ap planRecords (plan-end links lengths reports from b h))
 
   module _ (h : b < length lengths) {k : ℕ} (e : k ≡ at lengths b) where
     -- its links and its report are there
@@ -121,17 +89,18 @@ module _ {links lengths reports before now : List ℕ} {place from b : ℕ} (l :
     abbrev behind : List ℕ
     behind = planRecords (planFrom links lengths reports (from + k) (b + 1))
 
-    now-left : Writing (planRecords (planOf links lengths reports)) (here ++ behind) before now place
+    batch-first : planRecords (planFrom links lengths reports from b) ≡ here ++ behind
     unfolding planRecords
-    now-left =
+    batch-first =
         let z : from + k - from ≡ k = omega arith in
-        reworded (rw (z, e, plan-next links lengths reports from b h)) (l .left)
+        rw (z, e, plan-next links lengths reports from b h)
 
     pub batch-room : length here ≤ length (free place now)
-    batch-room = piece-room here behind now-left
+    batch-room = piece-room (l .left) here behind batch-first
 
-    pub batch-fits : {part : List ℕ} {m : ℕ} → length before < 2 ^ 64 → Fills here (free place now) part m → place + m < 2 ^ 64
-    batch-fits s f = piece-fits here behind now-left f s
+    module _ {part : List ℕ} {m : ℕ} (f : Fills here (free place now) part m) where
+      pub batch-fits : length before < 2 ^ 64 → place + m < 2 ^ 64
+      batch-fits s = piece-fits (l .left) here behind batch-first f s
 
-    pub batch-next : {part : List ℕ} {m : ℕ} → Fills here (free place now) part m → BatchesLeft links lengths reports before (back place now part) (place + m) (from + k) (b + 1)
-    batch-next f = record { parts = l .parts; cut = rw e (cut-next (l .cut) h); left = piece-next here behind now-left f }
+      pub batch-next : BatchesLeft links lengths reports before (back place now part) (place + m) (from + k) (b + 1)
+      batch-next = record { parts = l .parts; cut = rw e (cut-next (l .cut) h); left = piece-next (l .left) here behind batch-first f }

@@ -3,8 +3,9 @@ use Prim.Native.Nat.{_-_, _≤_}
 use lib.ListN.{length, drop}
 use Rattle.tables.specs.Batch.{pairs}
 use Rattle.writer.specs.Plan.{linkRecords}
-use Rattle.writer.proofs.Filling.{Writing, begun, last-inside}
-use Rattle.writer.proofs.Recording.{link-room, link-fits, link-next, links-done}
+use Rattle.writer.proofs.Planning.{links-next, links-end}
+use Rattle.writer.proofs.Filling.{Writing, begun, piece-fits, piece-next, last-inside, all-written}
+use Rattle.writer.proofs.Recording.{link-room}
 use borrow.Author.Needs.{needs}
 use Rattle.writer.proofs.records.links.Statement.{statement}
 use Rattle.writer.proofs.records.links.Tie as tie
@@ -32,9 +33,9 @@ links-spec =
     (λ c. search needs)
     (λ c. search needs)
     (λ c κs. search link-room)
-    (λ c. search link-fits)
+    (λ c. search (piece-fits, links-next))
     (λ c. search needs)
     (λ c. search needs)
-    (λ c. search (link-next, needs))
+    (λ c. (search needs, search (piece-next, links-next)))
     (λ c. search needs)
-    (λ c. search links-done))
+    (λ c. search (all-written, links-end)))

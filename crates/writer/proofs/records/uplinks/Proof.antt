@@ -2,8 +2,9 @@
 use Prim.Native.Nat.{_-_}
 use lib.ListN.{length, drop}
 use Rattle.writer.specs.Plan.{uplinkRecords}
-use Rattle.writer.proofs.Filling.{Writing, begun, last-inside}
-use Rattle.writer.proofs.Recording.{uplink-room, uplink-fits, uplink-next, uplinks-done}
+use Rattle.writer.proofs.Planning.{uplinks-next, uplinks-end}
+use Rattle.writer.proofs.Filling.{Writing, begun, piece-fits, piece-next, last-inside, all-written}
+use Rattle.writer.proofs.Recording.{uplink-room}
 use borrow.Author.Needs.{needs}
 use Rattle.writer.proofs.records.uplinks.Statement.{statement}
 use Rattle.writer.proofs.records.uplinks.Tie as tie
@@ -27,9 +28,9 @@ uplinks-spec =
     (λ c. search needs)
     (λ c. search needs)
     (λ c κs. search uplink-room)
-    (λ c. search uplink-fits)
+    (λ c. search (piece-fits, uplinks-next))
     (λ c. search needs)
     (λ c. search needs)
-    (λ c. search uplink-next)
+    (λ c. search (piece-next, uplinks-next))
     (λ c. search needs)
-    (λ c. search uplinks-done))
+    (λ c. search (all-written, uplinks-end)))
