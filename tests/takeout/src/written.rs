@@ -8,7 +8,7 @@ use crate::chance::Chance;
 use crate::class::grouped;
 use crate::cross_links::MIXED;
 use crate::draft::Visit;
-use crate::file::{self, MACHINE_LIMIT};
+use crate::file::{self, BATCH_LIMIT, FILE_LIMIT, MACHINE_LIMIT};
 use crate::plan::Planned;
 use crate::run::agreed;
 use crate::search::chokes;
@@ -36,14 +36,15 @@ pub fn through(trial: Words, labels: Words) {
     }
     stream.ended();
     println!(
-        "takeout: {} written plans agreed: {} reports of {} bytes written",
+        "takeout: {} written plans agreed: {} reports of {} bytes written, {} in the longest file",
         grouped(plans.len()),
         grouped(plans.iter().map(|planned| planned.asked().len()).sum()),
         grouped(files.iter().map(Vec::len).sum()),
+        grouped(files.iter().map(Vec::len).max().unwrap_or(0)),
     );
 }
 
-/// Plans by chance, most of them small, and one of as many machines as a site has.
+/// Plans by chance, most of them small, one of as many machines as a site has, and two whose files are as long as a file may be.
 fn plans() -> Vec<Planned> {
     let mut chance = Chance::seeded(17);
     let mut plans = Vec::new();
@@ -58,7 +59,25 @@ fn plans() -> Vec<Planned> {
         reports: vec![1, 0, 255],
         ..Planned::of_sizes(up, MIXED, &[0, 400, 410], &mut chance)
     });
+    plans.push(full(Planned {
+        up: vec![0],
+        batches: vec![Vec::new(); 8_000],
+        reports: vec![1; 8_000],
+    }));
+    let up = tree(RANDOM, SHUFFLED, 1_000, &mut chance);
+    let sizes = [BATCH_LIMIT, BATCH_LIMIT, 200];
+    plans.push(full(Planned::of_sizes(up, MIXED, &sizes, &mut chance)));
     plans
+}
+
+/// The plan with empty batches behind it, a byte each, until its file has 16,384 bytes; after the last a report is asked.
+fn full(mut planned: Planned) -> Planned {
+    let length = length(&planned.up, &planned.plan()).expect("its file is not too long");
+    let batches = planned.batches.len() + FILE_LIMIT - length - 1;
+    planned.batches.resize(batches, Vec::new());
+    planned.reports.resize(batches - 1, 0);
+    planned.reports.push(255);
+    planned
 }
 
 /// The files of the plans as `trial` printed them, each the front of a buffer that is longer.
