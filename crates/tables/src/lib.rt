@@ -31,7 +31,7 @@ pub enum Fault {
     Long,
     // The buffer is shorter than the file.
     Short,
-    // The batches' lengths don't go with the reports, or don't add up to the links.
+    // The batches' lengths don't go with the reports, or don't add up to the numbers lent.
     Parts,
 }
 

@@ -1,11 +1,25 @@
+// tablet: the site file of the shop on standard output.
+use libc::STDERR_FILENO;
 use libc::STDOUT_FILENO;
+use tables::Answer;
 
-// Writes the site file of a plan into the buffer, and what was written to standard output; nothing where it is refused.
+// A refusal, as `chokes` prints it, but to standard error.
+fn refused(given: Answer) {
+    io::write_all(STDERR_FILENO, b"R ");
+    io::print_decimal(STDERR_FILENO, given.code as u64);
+    io::write_all(STDERR_FILENO, b" ");
+    io::print_decimal(STDERR_FILENO, given.value as u64);
+    io::write_all(STDERR_FILENO, b"\n");
+}
+
+// Writes the site file of a plan into the buffer, and what was written to standard output.
 fn hand_over(up: &[u16], links: &[u16], lengths: &[u16], reports: &[u8], buffer: &mut [u8]) {
     let given = writer::write(up, links, lengths, reports, buffer);
     let len = given.value;
     if given.code == 0 {
         io::write_all(STDOUT_FILENO, &buffer[..len]);
+    } else {
+        refused(given);
     }
 }
 

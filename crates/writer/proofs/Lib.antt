@@ -1,11 +1,12 @@
 pub mod Going
-pub mod ReadingBack
+pub mod ReadThrough
 pub mod Planning
 pub mod BatchByBatch
 pub mod Measuring
 pub mod Filling
 pub mod Recording
+pub mod Accepting
 pub mod WholeFile
-pub mod Back
+pub mod ReadBack
 pub mod Different
 pub mod Worked

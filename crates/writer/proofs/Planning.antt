@@ -13,7 +13,7 @@ use Rattle.plain.proofs.Loops.{from-next}
 use Rattle.tables.specs.Batch.{pairs}
 use Rattle.tables.proofs.Pairing.{pairs-next, pairs-end}
 use Rattle.sitefile.specs.Record.{recordOf}
-use Rattle.writer.specs.Plan.{Batch, planOf, uplinkRecords, linkRecords}
+use Rattle.writer.specs.Plan.{Part, planOf, uplinkRecords, linkRecords}
 
 pub uplinks-next : (up : List ℕ) (v : ℕ) → v < length up → uplinkRecords (drop v up) ≡ recordOf 2 (at up v ∷ []) ++ uplinkRecords (drop (v + 1) up)
 unfolding uplinkRecords
@@ -33,12 +33,12 @@ unfolding linkRecords
 links-end batch i h = rw (pairs-end batch i h)
 
 -- the batches from b on take the links from `from` on
-abbrev pub planFrom : List ℕ → List ℕ → List ℕ → ℕ → ℕ → List Batch
+abbrev pub planFrom : List ℕ → List ℕ → List ℕ → ℕ → ℕ → List Part
 planFrom links lengths reports from b = planOf (drop from links) (drop b lengths) (drop b reports)
 
 -- batch b, which takes the links from `from` on
-abbrev batchAt : List ℕ → List ℕ → List ℕ → ℕ → ℕ → Batch
-batchAt links lengths reports from b = record { numbers = take (at lengths b) (drop from links); report = not (eqb (at reports b) 0) }
+abbrev batchAt : List ℕ → List ℕ → List ℕ → ℕ → ℕ → Part
+batchAt links lengths reports from b = record { batch = take (at lengths b) (drop from links); report = not (eqb (at reports b) 0) }
 
 module _ (links lengths reports : List ℕ) (from b : ℕ) where
   pub plan-next : b < length lengths → planFrom links lengths reports from b ≡ batchAt links lengths reports from b ∷ planFrom links lengths reports (from + at lengths b) (b + 1)
@@ -51,7 +51,7 @@ module _ (links lengths reports : List ℕ) (from b : ℕ) where
   unfolding planOf
   plan-end h = rw (drop-of-length-le lengths h)
 
--- the lengths from b on add up to the links from `from` on
+-- the lengths from b on add up to how many numbers are left from `from` on
 pub record Cut (links lengths : List ℕ) (from b : ℕ) : Type 0 where
   pub sum : from + total (drop b lengths) ≡ length links
 

@@ -11,9 +11,9 @@ use Rattle.plain.specs.Table.{at}
 use Rattle.tables.specs.Batch.{pairs}
 use Rattle.sitefile.specs.Record.{words, recordOf}
 use Rattle.writer.specs.Plan.{planOf, uplinkRecords, treeRecords, linkRecords, closeRecords, planRecords}
-use Rattle.writer.specs.Filling.{Fills, Planned}
+use Rattle.writer.specs.Filling.{Fills, PlanFits}
 use Rattle.writer.proofs.Planning.{uplinks-next, links-next, planFrom, plan-next, plan-end, Cut, uncut, cut-inside, cut-next}
-use Rattle.writer.proofs.Filling.{Writing, begun, free, back, piece-room, piece-fits, piece-next, all-written, last-inside, last-room, last-fits, last-written, first-room, first-written}
+use Rattle.writer.proofs.Filling.{Writing, begun, free, back, piece-room, piece-fits, piece-next, all-written, last-inside, last-room, last-fits, last-written, first-room, first-written, second-fits}
 
 -- room for the next record
 pub uplink-room : (up : List ℕ) (v : ℕ) {whole before now : List ℕ} {place : ℕ} → Writing whole (uplinkRecords (drop v up)) before now place → v < length up → 3 ≤ length (free place now)
@@ -28,6 +28,10 @@ link-room batch i w h = piece-room w (recordOf 3 (at batch i ∷ at batch (i + 1
 pub size-room : (up before : List ℕ) → length (treeRecords up) ≤ length before → 3 ≤ length before
 unfolding words
 size-room up before h = first-room (recordOf 1 (length up ∷ [])) (uplinkRecords up) before h
+
+pub tree-fits : (up : List ℕ) {before now part : List ℕ} {k m : ℕ} → length (treeRecords up) ≤ length before → Fills (recordOf 1 (length up ∷ [])) before now k
+    → Fills (uplinkRecords up) (free k now) part m → length before < 2 ^ 64 → k + m < 2 ^ 64
+tree-fits up h f g b = second-fits (recordOf 1 (length up ∷ [])) (uplinkRecords up) h f g b
 
 -- the close of a batch: kind 4 alone, or kind 5 behind it
 module _ {report : ℕ} {before now : List ℕ} {k : ℕ} (f : Fills (recordOf 4 []) before now k) where
@@ -57,12 +61,12 @@ module _ {report : ℕ} {before now : List ℕ} {k : ℕ} (f : Fills (recordOf 4
 
 -- the batches from b on, which take the links from `from` on, are still to be written
 pub record BatchesLeft (links lengths reports before now : List ℕ) (place from b : ℕ) : Type 0 where
-  pub parts : length reports ≡ length lengths
+  pub bytes : length reports ≡ length lengths
   pub cut : Cut links lengths from b
   pub left : Writing (planRecords (planOf links lengths reports)) (planRecords (planFrom links lengths reports from b)) before now place
 
-pub batches-begun : {links lengths reports before : List ℕ} → Planned links lengths reports before → BatchesLeft links lengths reports before before 0 0 0
-batches-begun p = record { parts = p .parts; cut = uncut _ _ (p .sum); left = begun _ _ (p .room) }
+pub batches-begun : {links lengths reports before : List ℕ} → PlanFits links lengths reports before → BatchesLeft links lengths reports before before 0 0 0
+batches-begun p = record { bytes = p .bytes; cut = uncut _ _ (p .sum); left = begun _ _ (p .room) }
 
 module _ {links lengths reports before now : List ℕ} {place from b : ℕ} (l : BatchesLeft links lengths reports before now place from b) where
   pub batches-inside : place ≤ length now
@@ -81,7 +85,7 @@ module _ {links lengths reports before now : List ℕ} {place from b : ℕ} (l :
     batch-end-fits s = omega (arith, batch-end)
 
     pub batch-report : b < length reports
-    batch-report = rw (l .parts) h
+    batch-report = rw (l .bytes) h
 
     abbrev here : List ℕ
     here = linkRecords (pairs (take (from + k - from) (drop from links))) ++ closeRecords (not (eqb (at reports b) 0))
@@ -103,4 +107,4 @@ module _ {links lengths reports before now : List ℕ} {place from b : ℕ} (l :
       batch-fits s = piece-fits (l .left) here behind batch-first f s
 
       pub batch-next : BatchesLeft links lengths reports before (back place now part) (place + m) (from + k) (b + 1)
-      batch-next = record { parts = l .parts; cut = rw e (cut-next (l .cut) h); left = piece-next (l .left) here behind batch-first f }
+      batch-next = record { bytes = l .bytes; cut = rw e (cut-next (l .cut) h); left = piece-next (l .left) here behind batch-first f }

@@ -3,45 +3,29 @@ use mathlib.Core.Path.{_≡_, refl, sym, ap, _∙_}
 use mathlib.Core.List.{List, _++_}
 use Prim.Native.Nat.{ℕ, _+_, _*_, _^_, _<_, _≤_}
 use lib.ListN.{length}
-use lib.Dec.{leb}
 use Rattle.plain.specs.Table.{total}
-use Rattle.plain.proofs.Says.{says-and, says-eq, says-le}
 use Rattle.tables.specs.declared.Answer.{Answer}
-use Rattle.tables.specs.declared.Fault.{Fault}
 use Rattle.tables.specs.declared.Verdict.the-variants.{the-data as Verdict, Sound}
 use Rattle.tables.specs.Answer.{answerTo}
-use Rattle.tables.specs.Tree.{mostMachines, aloneVerdict}
+use Rattle.tables.specs.Tree.{mostMachines}
 use Rattle.tables.specs.Outcome.{outcome}
-use Rattle.tables.proofs.Verdicts.{all-sound, unless-sound}
-use Rattle.tables.proofs.Lengths.{size-exact}
+use Rattle.tables.proofs.Verdicts.{all-sound}
 use Rattle.checks.proofs.Checking.{told}
 use Rattle.site.proofs.Answers.{accepted as answered}
-use Rattle.turns.specs.Printed.{mostBytes}
 use Rattle.writer.specs.Plan.{planOf, treeRecords, planRecords, fileOf}
-use Rattle.writer.specs.Written.{partsVerdict, batchesVerdict, planVerdict, roomVerdict, writeVerdict, writeOf}
-use Rattle.writer.specs.Filling.{Fills, Planned, Writable, planLength, Measured}
+use Rattle.writer.specs.Written.{planVerdict, roomVerdict, writeVerdict, writeOf}
+use Rattle.writer.specs.Filling.{Fills, PlanFits, FileFits, planLength, Measured}
 use Rattle.writer.proofs.Filling.{free, back, first-room, second-inside, second-room, second-fits, second-done}
+use Rattle.writer.proofs.Accepting.{few-up, parts-told, accepted}
 use Rattle.writer.proofs.Measuring.{file-length, room-is}
-
--- what a check tells where it passes
-pub few-up : {c : Verdict} (up : List ℕ) → c ≡ Sound → c ≡ aloneVerdict up → length up ≤ mostMachines
-unfolding aloneVerdict
-few-up up e q = size-exact (length up) .0 (all-sound _ (told e q) .0) .1
-
-parts-told : {c : Verdict} (numbers : ℕ) (lengths : List ℕ) (reports : ℕ) → c ≡ Sound → c ≡ partsVerdict numbers lengths reports → (reports ≡ length lengths) × (total lengths ≡ numbers)
-unfolding partsVerdict
-parts-told numbers lengths reports e q = says-and (says-eq reports (length lengths)) (says-eq (total lengths) numbers) .gives (unless-sound _ _ _ (told e q))
-
-pub same-sum : {c : Verdict} (numbers : ℕ) (lengths : List ℕ) (reports : ℕ) → c ≡ Sound → c ≡ partsVerdict numbers lengths reports → total lengths ≡ numbers
-same-sum numbers lengths reports e q = parts-told numbers lengths reports e q .1
 
 module _ {c : Verdict} (n : ℕ) (links lengths reports : List ℕ) (e : c ≡ Sound) (q : c ≡ planVerdict n links lengths reports) where
   plan-told : (length reports ≡ length lengths) × (total lengths ≡ length links)
   unfolding planVerdict
   plan-told = let a = all-sound _ (told e q) in parts-told (length links) lengths (length reports) (search a) refl
 
-  pub same-parts : length reports ≡ length lengths
-  same-parts = plan-told .0
+  pub same-bytes : length reports ≡ length lengths
+  same-bytes = plan-told .0
 
   -- the length is judged by its sum
   pub judged-room : {d : Verdict} {r : ℕ} (up : List ℕ) (room : ℕ) → n ≡ length up → Measured (3 + 3 * n + planLength lengths reports) r → d ≡ roomVerdict r room
@@ -49,39 +33,11 @@ module _ {c : Verdict} (n : ℕ) (links lengths reports : List ℕ) (e : c ≡ S
   judged-room up room s m p =
       p ∙ room-is room m ∙ ap (λ k. roomVerdict k room) (ap (λ k. 3 + 3 * k + planLength lengths reports) s ∙ sym (file-length up links lengths reports (plan-told .1)))
 
--- all checks have passed
-pub record Accepted (up links lengths reports : List ℕ) (room : ℕ) : Type 0 where
-  pub tree : aloneVerdict up ≡ Sound
-  pub parts : length reports ≡ length lengths
-  pub sum : total lengths ≡ length links
-  pub batches : batchesVerdict (length up) (planOf links lengths reports) ≡ Sound
-  pub short : length (fileOf up (planOf links lengths reports)) ≤ mostBytes
-  pub fits : length (fileOf up (planOf links lengths reports)) ≤ room
-
-pub accepted : (up links lengths reports : List ℕ) (room : ℕ) → writeVerdict up links lengths reports room ≡ Sound → Accepted up links lengths reports room
-unfolding writeVerdict planVerdict roomVerdict
-accepted up links lengths reports room e =
-    let plan = planOf links lengths reports in
-    let a = all-sound _ e in
-    let p : planVerdict (length up) links lengths reports ≡ Sound = search a in
-    let r : roomVerdict (length (fileOf up plan)) room ≡ Sound = search a in
-    let b = all-sound _ p in
-    let f = all-sound _ r in
-    let (k, m) = parts-told (length links) lengths (length reports) (search b) refl in
-    record {
-      tree = search a;
-      parts = k;
-      sum = m;
-      batches = search b;
-      short = says-le _ _ .gives (unless-sound (leb (length (fileOf up plan)) mostBytes) Fault.Long mostBytes (search f));
-      fits = says-le _ _ .gives (unless-sound (leb (length (fileOf up plan)) room) Fault.Short (length (fileOf up plan)) (search f));
-    }
-
 module _ {c : Verdict} (up links lengths reports out : List ℕ) (e : c ≡ Sound) (q : c ≡ writeVerdict up links lengths reports (length out)) where
-  pub writable : Writable up links lengths reports out
+  pub writable : FileFits up links lengths reports out
   writable =
       let a = accepted up links lengths reports (length out) (told e q) in
-      record { few = few-up up (a .tree) refl; parts = a .parts; sum = a .sum; room = a .fits }
+      record { few = few-up up (a .tree) refl; bytes = a .bytes; sum = a .sum; room = a .fits }
 
   pub written : {r : Answer} {out′ : List ℕ} {len : ℕ} → Fills (fileOf up (planOf links lengths reports)) out out′ len → r ≡ answerTo c len
       → outcome r out′ ≡ writeOf up links lengths reports out
@@ -89,7 +45,7 @@ module _ {c : Verdict} (up links lengths reports out : List ℕ) (e : c ≡ Soun
   written f a = rw (f .filled) (answered out _ _ e q (a ∙ ap (answerTo c) (f .number)))
 
 -- the tree, then the batches
-module _ {up links lengths reports before : List ℕ} (w : Writable up links lengths reports before) where
+module _ {up links lengths reports before : List ℕ} (w : FileFits up links lengths reports before) where
   whole : length (treeRecords up ++ planRecords (planOf links lengths reports)) ≤ length before
   unfolding fileOf
   whole = w .room
@@ -101,8 +57,8 @@ module _ {up links lengths reports before : List ℕ} (w : Writable up links len
     pub tree-inside : k ≤ length now
     tree-inside = second-inside (treeRecords up) (planRecords (planOf links lengths reports)) whole f
 
-    pub plan-room : Planned links lengths reports (free k now)
-    plan-room = record { parts = w .parts; sum = w .sum; room = second-room (treeRecords up) (planRecords (planOf links lengths reports)) whole f }
+    pub plan-room : PlanFits links lengths reports (free k now)
+    plan-room = record { bytes = w .bytes; sum = w .sum; room = second-room (treeRecords up) (planRecords (planOf links lengths reports)) whole f }
 
     module _ {part : List ℕ} {m : ℕ} (g : Fills (planRecords (planOf links lengths reports)) (free k now) part m) where
       pub file-fits : length before < 2 ^ 64 → k + m < 2 ^ 64

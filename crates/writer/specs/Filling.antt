@@ -18,15 +18,15 @@ pub record Fills (bytes before after : List ℕ) (answer : ℕ) : Type 0 where
   pub number : answer ≡ length bytes
 
 -- a length for each report byte, lengths that add up to the numbers, and room for all batches
-pub record Planned (links lengths reports free : List ℕ) : Type 0 where
-  pub parts : length reports ≡ length lengths
+pub record PlanFits (links lengths reports free : List ℕ) : Type 0 where
+  pub bytes : length reports ≡ length lengths
   pub sum : total lengths ≡ length links
   pub room : length (planRecords (planOf links lengths reports)) ≤ length free
 
 -- and the same of the whole file
-pub record Writable (up links lengths reports free : List ℕ) : Type 0 where
+pub record FileFits (up links lengths reports free : List ℕ) : Type 0 where
   pub few : length up ≤ mostMachines
-  pub parts : length reports ≡ length lengths
+  pub bytes : length reports ≡ length lengths
   pub sum : total lengths ≡ length links
   pub room : length (fileOf up (planOf links lengths reports)) ≤ length free
 

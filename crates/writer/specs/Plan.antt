@@ -10,14 +10,14 @@ use Rattle.tables.specs.Batch.{pairs}
 use Rattle.sitefile.specs.Record.{recordOf}
 
 -- the numbers of a batch, two for each link, and whether a report is asked after it
-pub record Batch : Type 0 where
-  pub numbers : List ℕ
+pub record Part : Type 0 where
+  pub batch : List ℕ
   pub report : Bool
 
 -- batch after batch from the front of the links, each as long as its length says; a report where the byte is not 0
-unfoldable pub planOf : List ℕ → List ℕ → List ℕ → List Batch
+unfoldable pub planOf : List ℕ → List ℕ → List ℕ → List Part
 planOf links [] reports = []
-planOf links (k ∷ lengths) reports = record { numbers = take k links; report = not (eqb (at reports 0) 0) } ∷ planOf (drop k links) lengths (drop 1 reports)
+planOf links (k ∷ lengths) reports = record { batch = take k links; report = not (eqb (at reports 0) 0) } ∷ planOf (drop k links) lengths (drop 1 reports)
 
 -- kind 2 for each machine
 unfoldable pub uplinkRecords : List ℕ → List ℕ
@@ -37,14 +37,14 @@ linkRecords (p ∷ l) = recordOf 3 (p .0 ∷ p .1 ∷ []) ++ linkRecords l
 abbrev pub closeRecords : Bool → List ℕ
 closeRecords report = recordOf 4 [] ++ cond report (recordOf 5 []) []
 
-abbrev pub batchRecords : Batch → List ℕ
-batchRecords b = linkRecords (pairs (b .numbers)) ++ closeRecords (b .report)
+abbrev pub batchRecords : Part → List ℕ
+batchRecords b = linkRecords (pairs (b .batch)) ++ closeRecords (b .report)
 
 -- batch after batch
-unfoldable pub planRecords : List Batch → List ℕ
+unfoldable pub planRecords : List Part → List ℕ
 planRecords [] = []
 planRecords (b ∷ plan) = batchRecords b ++ planRecords plan
 
 -- the file: the tree, then the batches
-unfoldable pub fileOf : List ℕ → List Batch → List ℕ
+unfoldable pub fileOf : List ℕ → List Part → List ℕ
 fileOf up plan = treeRecords up ++ planRecords plan

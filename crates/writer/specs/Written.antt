@@ -14,16 +14,16 @@ use Rattle.tables.specs.Tree.{aloneVerdict}
 use Rattle.tables.specs.Batch.{batchVerdict}
 use Rattle.tables.specs.Outcome.{Outcome, judged}
 use Rattle.turns.specs.Printed.{mostBytes}
-use Rattle.writer.specs.Plan.{Batch, planOf, fileOf}
+use Rattle.writer.specs.Plan.{Part, planOf, fileOf}
 
 -- 27: a report byte for each length, and lengths that add up to the numbers lent; the value is how many lengths there are
 unfoldable pub partsVerdict : ℕ → List ℕ → ℕ → Verdict
 partsVerdict numbers lengths reports = unless (eqb reports (length lengths) && eqb (total lengths) numbers) Fault.Parts (length lengths)
 
 -- 7 to 9 of the first bad batch
-unfoldable pub batchesVerdict : ℕ → List Batch → Verdict
+unfoldable pub batchesVerdict : ℕ → List Part → Verdict
 batchesVerdict n [] = Sound
-batchesVerdict n (b ∷ plan) = checks (batchVerdict n (b .numbers) ∷ batchesVerdict n plan ∷ [])
+batchesVerdict n (b ∷ plan) = checks (batchVerdict n (b .batch) ∷ batchesVerdict n plan ∷ [])
 
 unfoldable pub planVerdict : ℕ → List ℕ → List ℕ → List ℕ → Verdict
 planVerdict n links lengths reports = checks (partsVerdict (length links) lengths (length reports) ∷ batchesVerdict n (planOf links lengths reports) ∷ [])

@@ -1,4 +1,4 @@
-// The parts of a plan: lengths that go with the reports and add up to the links, and batches none of which is refused.
+// The parts of a plan: lengths that go with the reports and add up to the numbers lent, and batches none of which is refused.
 ghost use mathlib.Core.Path.{_≡_};
 ghost use mathlib.Core.List.{List};
 ghost use Prim.Native.Nat.{ℕ};

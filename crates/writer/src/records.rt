@@ -10,7 +10,7 @@ ghost use Rattle.tables.specs.Tree.{mostMachines};
 ghost use Rattle.tables.specs.Batch.{pairs};
 ghost use Rattle.sitefile.specs.Record.{recordOf};
 ghost use Rattle.writer.specs.Plan.{uplinkRecords, treeRecords, linkRecords, closeRecords, planOf, planRecords, fileOf};
-ghost use Rattle.writer.specs.Filling.{Fills, Planned, Writable};
+ghost use Rattle.writer.specs.Filling.{Fills, PlanFits, FileFits};
 
 // The low byte of a number.
 fn low(n: u16) -> u8
@@ -121,7 +121,7 @@ fn batch(out: &mut [u8], batch: &[u16], report: u8) -> usize
 
 // Batch after batch.
 fn batches(out: &mut [u8], links: &[u16], lengths: &[u16], reports: &[u8]) -> usize
-    requires { ⌜ Planned (now links) (now lengths) (now reports) (now out) ⌝ }
+    requires { ⌜ PlanFits (now links) (now lengths) (now reports) (now out) ⌝ }
     ensures { λ r. ⌜ Fills (planRecords (planOf (now (links .entry)) (now (lengths .entry)) (now (reports .entry)))) (now (out .entry)) (now (out .exit)) r ⌝ }
 {
     let mut at = 0;
@@ -139,7 +139,7 @@ fn batches(out: &mut [u8], links: &[u16], lengths: &[u16], reports: &[u8]) -> us
 
 // The tree, then the batches.
 pub fn file(out: &mut [u8], up: &[u16], links: &[u16], lengths: &[u16], reports: &[u8]) -> usize
-    requires { ⌜ Writable (now up) (now links) (now lengths) (now reports) (now out) ⌝ }
+    requires { ⌜ FileFits (now up) (now links) (now lengths) (now reports) (now out) ⌝ }
     ensures { λ r. ⌜ Fills (fileOf (now (up .entry)) (planOf (now (links .entry)) (now (lengths .entry)) (now (reports .entry)))) (now (out .entry)) (now (out .exit)) r ⌝ }
 {
     let k = tree(out, up);

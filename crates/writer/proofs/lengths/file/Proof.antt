@@ -1,5 +1,6 @@
 -- `lengths::file` meets its contract. The loop's invariant: the sum and the batches from b on make the whole length.
 use Prim.Native.Nat.{_-_}
+use native.Mathlib.Omega.{arith}
 use lib.ListN.{length}
 use Rattle.writer.proofs.Measuring.{Measuring, summed-none, summed-more, summed-all, passed}
 use borrow.Author.Needs.{needs}
@@ -21,7 +22,7 @@ file-spec =
     (λ c. search needs)
     (λ c. search needs)
     (λ c. search summed-none)
-    (λ c. search passed)
+    (λ c. search (passed, arith))
     (λ c. search needs)
     (λ c. search needs)
     (λ c. search needs)

@@ -1,7 +1,7 @@
 -- `plan::check` meets its contract: the parts, then the batches.
 use Rattle.checks.proofs.Checking.{stops, goes-on, ends}
 use Rattle.writer.specs.Written.{planVerdict}
-use Rattle.writer.proofs.WholeFile.{same-sum}
+use Rattle.writer.proofs.Accepting.{same-sum}
 use borrow.Author.Needs.{needs}
 use Rattle.writer.proofs.plan.check.Statement.{statement}
 use Rattle.writer.proofs.plan.check.Tie as tie

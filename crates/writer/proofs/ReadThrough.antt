@@ -25,7 +25,7 @@ use Rattle.site.proofs.Callers.{answer-sound}
 use Rattle.sitefile.specs.Record.{bodyLength, words, recordOf}
 use Rattle.sitefile.specs.File.{Read, reads, reports, none, begin, readerOf, inPlace, behind, size, uplink, link, close, report, step}
 use Rattle.sitefile.proofs.Encoded.{behind-is, kind-is, size-read, uplink-read, link-read, close-read, report-read, end-read}
-use Rattle.writer.specs.Plan.{Batch, uplinkRecords, linkRecords, closeRecords, planRecords, fileOf}
+use Rattle.writer.specs.Plan.{Part, uplinkRecords, linkRecords, closeRecords, planRecords, fileOf}
 use Rattle.writer.specs.Written.{batchesVerdict}
 use Rattle.writer.specs.Said.{Act, adds, asks}
 use Rattle.writer.specs.Statements.{acts, reportOn, reportsOf}
@@ -135,12 +135,12 @@ module _ (file up : List ℕ) where
       asked-goes false go place here = go place here
 
     -- batch after batch to the end
-    batches-go : (plan : List Batch) (h : History) (place : ℕ) → Lived up h → batchesVerdict (length up) plan ≡ Sound → drop place file ≡ planRecords plan
+    batches-go : (plan : List Part) (h : History) (place : ℕ) → Lived up h → batchesVerdict (length up) plan ≡ Sound → drop place file ≡ planRecords plan
         → Goes file (standing up (tables up h) [] place) up (acts plan) (reportsOf up h plan)
     unfolding planRecords acts reportsOf batchesVerdict batchVerdict words
     batches-go [] h place l v here = ended (end-read file (standing up (tables up h) [] place) here (rw (grown-is (tables up h) [] place)))
     batches-go (b ∷ plan) h place l v here =
-        let ns : List ℕ = b .numbers in
+        let ns : List ℕ = b .batch in
         let h′ : History = h ++ (ns ∷ []) in
         let rest : List ℕ = planRecords plan in
         let close : List ℕ = closeRecords (b .report) in
@@ -152,7 +152,7 @@ module _ (file up : List ℕ) where
         close-goes (asked ++ rest) h l ns place′ good here′ (asked-goes rest h′ m (b .report) λ place″ here″. batches-go plan h′ place″ m later here″)
 
 -- the whole file, from its first record
-pub file-goes : (up : List ℕ) (plan : List Batch) → aloneVerdict up ≡ Sound → batchesVerdict (length up) plan ≡ Sound
+pub file-goes : (up : List ℕ) (plan : List Part) → aloneVerdict up ≡ Sound → batchesVerdict (length up) plan ≡ Sound
     → Goes (fileOf up plan) begin up (acts plan) (reportsOf up [] plan)
 unfolding aloneVerdict fileOf size words bodyLength leaves
 file-goes up plan alone good =
