@@ -76,9 +76,12 @@ module _ (up links lengths reports : List ℕ) (room : ℕ) where
       let plan = planOf links lengths reports in
       let p : partsVerdict (length links) lengths (length reports) ≡ Sound = rw (says-and (says-eq (length reports) (length lengths)) (says-eq (total lengths) (length links)) .takes (a .bytes, a .sum)) in
       let b = batches-pass (length up) plan (a .batches) in
-      let w : planVerdict (length up) links lengths reports ≡ Sound = sound-all _ (p, (b, tt)) in
-      let r : roomVerdict (length (fileOf up plan)) room ≡ Sound = sound-all _ (rw (le-leb (length (fileOf up plan)) mostBytes (a .short)), (rw (le-leb (length (fileOf up plan)) room (a .fits)), tt)) in
-      sound-all _ (a .tree, (w, (r, tt)))
+      let w : planVerdict (length up) links lengths reports ≡ Sound = sound-all _ (search (p, b)) in
+      let s = le-leb (length (fileOf up plan)) mostBytes (a .short) in
+      let f = le-leb (length (fileOf up plan)) room (a .fits) in
+      let r : roomVerdict (length (fileOf up plan)) room ≡ Sound = rw (s, f) (sound-all (Sound ∷ Sound ∷ []) (refl, (refl, tt))) in
+      let t = a .tree in
+      sound-all _ (search (t, w, r))
 
 pub done-exactly : DoneExactly
 unfolding writeOf judged

@@ -6,6 +6,7 @@ pub mod Measuring
 pub mod Filling
 pub mod Recording
 pub mod Accepting
+pub mod Staying
 pub mod WholeFile
 pub mod ReadBack
 pub mod Different

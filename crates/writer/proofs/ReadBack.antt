@@ -2,18 +2,14 @@
 use mathlib.Core.Path.{_≡_, refl}
 use mathlib.Core.List.{List}
 use Prim.Native.Nat.{ℕ, _≤_}
-use native.Mathlib.Omega.{arith}
-use lib.ListN.{length, drop, length-append, length-drop}
-use lib.Seq.{drop-at}
-use Rattle.plain.specs.Laid.{laid}
+use lib.ListN.{length}
 use Rattle.plain.proofs.Laid.{take-laid, laid-whole}
 use Rattle.tables.specs.declared.Answer.{Answer}
-use Rattle.tables.specs.declared.Verdict.the-variants.{the-data as Verdict, Sound, Refused}
-use Rattle.tables.specs.Outcome.{outcome, lentBy, judged}
-use Rattle.site.proofs.Callers.{answer-sound, answer-refused}
+use Rattle.tables.specs.Outcome.{outcome}
+use Rattle.site.proofs.Callers.{answer-sound}
 use Rattle.writer.specs.Plan.{planOf, fileOf}
 use Rattle.writer.specs.Written.{writeVerdict, writeOf}
-use Rattle.writer.specs.Statements.{Accepted, front, RestStays, ReadBack, PrintedBack}
+use Rattle.writer.specs.Statements.{Accepted, front, ReadBack, PrintedBack}
 use Rattle.writer.proofs.Accepting.{batches-pass, accepted}
 use Rattle.writer.proofs.Going.{goes-says, goes-prints}
 use Rattle.writer.proofs.ReadThrough.{file-goes}
@@ -23,7 +19,7 @@ pub front-is : (up links lengths reports out : List ℕ) → (let r = writeOf up
 unfolding writeOf
 front-is up links lengths reports out z =
     let file = fileOf up (planOf links lengths reports) in
-    let (v, n, l) = answer-sound out (length file) (laid file out) (writeVerdict up links lengths reports (length out)) refl z in
+    let (v, n, l) = answer-sound _ _ _ (writeVerdict up links lengths reports (length out)) refl z in
     (accepted up links lengths reports (length out) v, rw (n, l) (take-laid file out))
 
 pub read-back : ReadBack
@@ -41,21 +37,5 @@ pub inside : {a : Answer} {out′ : List ℕ} (up links lengths reports out : Li
 unfolding writeOf
 inside up links lengths reports out e z =
     let file = fileOf up (planOf links lengths reports) in
-    let (_, n, l) = answer-sound out (length file) (laid file out) (writeVerdict up links lengths reports (length out)) e z in
+    let (_, n, l) = answer-sound _ _ _ (writeVerdict up links lengths reports (length out)) e z in
     rw (n, l) (laid-whole file out)
-
--- a refusal writes nothing, and a file nothing past its end
-pub rest-stays : RestStays
-unfolding writeOf judged
-rest-stays up links lengths reports out =
-    let file = fileOf up (planOf links lengths reports) in
-    let v = writeVerdict up links lengths reports (length out) in
-    record {
-      refused = λ o. answer-refused out (length file) (laid file out) v o refl .1;
-      past = λ z. let (_, n, l) = answer-sound out (length file) (laid file out) v refl z in rw (n, l) (drop-at file (drop (length file) out) (length file) refl);
-      size = laid-size v (accepted up links lengths reports (length out));
-    }
-  where
-    laid-size : (v : Verdict) → (v ≡ Sound → Accepted up links lengths reports (length out)) → length (lentBy v out (laid (fileOf up (planOf links lengths reports)) out)) ≡ length out
-    laid-size Sound a = let f = a refl .fits in omega (arith, f, length-append (fileOf up (planOf links lengths reports)) (drop (length (fileOf up (planOf links lengths reports))) out), length-drop (length (fileOf up (planOf links lengths reports))) out)
-    laid-size (Refused why place) a = refl
