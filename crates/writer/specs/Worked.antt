@@ -49,7 +49,8 @@ plans =
     ∷ record { name = "5, machines that never reach the hub"; up = list "0,2,1"; links = []; lengths = []; reports = []; buffer = 3; byHand = refuses 5 1 3 }
     ∷ record { name = "27, a report too few"; up = tree; links = list "0,2"; lengths = list "0,2"; reports = list "1"; buffer = 3; byHand = refuses 27 2 3 }
     ∷ record { name = "27, a report too many"; up = tree; links = []; lengths = []; reports = list "1"; buffer = 3; byHand = refuses 27 0 3 }
-    ∷ record { name = "27, lengths over the numbers lent, before 7"; up = tree; links = list "0,2"; lengths = list "3"; reports = list "1"; buffer = 3; byHand = refuses 27 1 3 }
+    ∷ record { name = "27, lengths over the numbers lent"; up = tree; links = list "0,2"; lengths = list "3"; reports = list "1"; buffer = 3; byHand = refuses 27 1 3 }
+    ∷ record { name = "27, lengths below the numbers lent, before 7"; up = tree; links = list "0,2,1,1"; lengths = list "3"; reports = list "1"; buffer = 3; byHand = refuses 27 1 3 }
     ∷ record { name = "27, lengths below the numbers lent, before 8"; up = tree; links = list "0,4,0"; lengths = list "2"; reports = list "1"; buffer = 3; byHand = refuses 27 1 3 }
     ∷ record { name = "7, an odd length"; up = tree; links = list "0,2"; lengths = list "1,1"; reports = list "0,0"; buffer = 3; byHand = refuses 7 1 3 }
     ∷ record { name = "7, a batch too long, after a good one"; up = tree; links = replicate 2050 0; lengths = 0 ∷ 2050 ∷ []; reports = list "0,0"; buffer = 3; byHand = refuses 7 2050 3 }
