@@ -20,3 +20,7 @@ total-rise [] (b ∷ k) e f = absurd (omega arith)
 total-rise (a ∷ l) [] e f = absurd (omega arith)
 total-rise (a ∷ l) (b ∷ k) e f =
     omega (arith, f 0 (omega arith), total-rise l k (omega arith) (λ x h. f (suc x) (omega arith)))
+
+-- where no entry is greater, the sum is not
+pub total-le : (l k : List ℕ) → length k ≡ length l → ((x : ℕ) → x < length l → at l x ≤ at k x) → total l ≤ total k
+total-le l k e f = omega (arith, total-rise l k e f)

@@ -55,7 +55,7 @@ are-uplinks up (suc v) x h o = by-cases (eqb v (hub up))
 abbrev pub all-uplinks : List ℕ → Cables
 all-uplinks up = uplinks up (length up)
 
-uplink-on : (up : List ℕ) (x y : ℕ) → ((x, y) ∈ all-uplinks up) ↔ Uplink (treeOf up) x y
+pub uplink-on : (up : List ℕ) (x y : ℕ) → ((x, y) ∈ all-uplinks up) ↔ Uplink (treeOf up) x y
 uplink-on up x y = (
   λ m. let (l, o, t) = uplinks-are up (length up) m in record { low = l; other = o; to = t },
   λ r. rw (r .to) at (are-uplinks up (length up) x (r .low) (r .other)),

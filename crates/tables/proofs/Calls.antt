@@ -9,12 +9,12 @@ use lib.ListN.{length}
 use lib.Dec.{leb, ltb, eqb}
 use Rattle.plain.specs.Table.{total}
 use Rattle.graph.specs.Cable.{Cables}
-use Rattle.graph.proofs.Members.{here, there, empty, single, parts}
+use Rattle.graph.proofs.Members.{here, there, cases, empty, single, parts}
 use Rattle.plain.proofs.Says.{says-le, says-eq, says-and}
 use Rattle.plain.proofs.Tabulate.{length-tabulate}
 use Rattle.tables.specs.Verdict.{Fault, Sound, checks}
 use Rattle.tables.specs.Answer.{done}
-use Rattle.tables.specs.Tree.{mostMachines, depthOf, sizeVerdict}
+use Rattle.tables.specs.Tree.{mostMachines, depthOf, sizeVerdict, aloneVerdict}
 use Rattle.tables.specs.Tables.{Tables, fresh, lengthsVerdict}
 use Rattle.tables.specs.Batch.{mostLinks, pairs, numbersVerdict, batchVerdict, after, rise}
 use Rattle.tables.specs.Links.{AllGood, Stands, tablesWith}
@@ -22,9 +22,9 @@ use Rattle.tables.specs.History.{History, Accepted, Lived, links, leaves
 use Rattle.tables.specs.Rules.{rulesVerdict, tablesVerdict}
 use Rattle.tables.specs.Outcome.{outcome, judged, startVerdict, startOf, addVerdict, addOf}
 use Rattle.tables.specs.Demand1.{SoundTree}
-use Rattle.tables.specs.Calls.{Adds, added, CallsLive, Limits}
+use Rattle.tables.specs.Calls.{Adds, added, acceptedOf, ran, CallsLive, Limits}
 use Rattle.tables.proofs.Standing.{alone-passed, standing}
-use Rattle.tables.proofs.Verdicts.{checks-one, unless-sound, unless-refused}
+use Rattle.tables.proofs.Verdicts.{checks-one, unless-sound, unless-refused, verdict-view}
 use Rattle.tables.proofs.Lengths.{size-exact, sizes-exact}
 use Rattle.tables.proofs.Sound.{sound-tree}
 use Rattle.tables.proofs.Links.{after-append, network, told}
@@ -73,7 +73,7 @@ started : (up : List ℕ) (t : Tables) → Lived up [] → lengthsVerdict up t �
 unfolding startVerdict startOf checks judged leaves
 started up t l e = rw (e, alone-passed up (l .tree) .1)
 
-adds-more : (up : List ℕ) (h : History) → Lived up h → (batch : List ℕ) → Adds up batch (tables up h) (tables up (h ++ (batch ∷ [])))
+pub adds-more : (up : List ℕ) (h : History) → Lived up h → (batch : List ℕ) → Adds up batch (tables up h) (tables up (h ++ (batch ∷ [])))
 adds-more up h l batch =
     rw (only-links .leave up h, only-links .leave up (h ++ (batch ∷ [])), links-append h batch) (adds up (links h) (only-links .stand up h l) batch)
 
@@ -81,22 +81,46 @@ adds-more up h l batch =
 pub lived-more : {up : List ℕ} {h : History} (batch : List ℕ) → Lived up h → batchVerdict (length up) batch ≡ Sound → Lived up (h ++ (batch ∷ []))
 lived-more {h = h} batch l e = record { tree = l .tree; batches = λ b i. ⊎-elim (l .batches b) (λ j. let q : b ≡ batch = single j in rw q e) (parts h i) }
 
-all-added : (up : List ℕ) (h g : History) → Lived up g → Accepted (length up) h → added up h (tables up g) ≡ tables up (g ++ h)
-unfolding added
-all-added up [] g l a = ap (tables up) (sym (append-nil g))
-all-added up (batch ∷ h) g l a =
-    let e = a batch (here refl) in
-    let k : addOf up batch (tables up g) .lent ≡ tables up (g ++ (batch ∷ [])) = ap (λ r. r .lent) (adds-more up g l batch .accepted e) in
-    ap (added up h) k ∙ all-added up h (g ++ (batch ∷ [])) (lived-more batch l e) (λ b i. a b (there i)) ∙ ap (tables up) (append-assoc g (batch ∷ []) h)
+-- a run leaves the tables of the history with its accepted batches behind: a refused one leaves what it found
+pub run-leaves : (up : List ℕ) (run g : History) → Lived up g → added up run (tables up g) ≡ tables up (g ++ acceptedOf (length up) run)
+unfolding added acceptedOf
+run-leaves up [] g l = ap (tables up) (sym (append-nil g))
+run-leaves up (batch ∷ run) g l = ⊎-elim
+    (λ e. rw e (ap (λ r. added up run (r .lent)) (adds-more up g l batch .accepted e) ∙ run-leaves up run (g ++ (batch ∷ [])) (lived-more batch l e)
+    ∙ ap (tables up) (append-assoc g (batch ∷ []) (acceptedOf (length up) run))))
+    (λ (why, place, e). rw e (ap (λ r. added up run (r .lent)) (adds-more up g l batch .refused why place e) ∙ run-leaves up run g l))
+    (verdict-view (batchVerdict (length up) batch))
+
+pub accepted-of : (n : ℕ) (run : History) → Accepted n (acceptedOf n run)
+unfolding acceptedOf
+accepted-of n [] = λ b i. absurd (empty i)
+accepted-of n (batch ∷ run) = ⊎-elim
+    (λ e. rw e (λ b i. ⊎-elim (λ (q : b ≡ batch). rw q e) (accepted-of n run b) (cases i)))
+    (λ (why, place, e). rw e (accepted-of n run))
+    (verdict-view (batchVerdict n batch))
+
+-- the accepted batches of a run more
+pub lived-run : {up : List ℕ} {g : History} (run : History) → Lived up g → Lived up (g ++ acceptedOf (length up) run)
+lived-run {up} {g} run l = record { tree = l .tree; batches = λ b i. ⊎-elim (l .batches b) (accepted-of (length up) run b) (parts g i) }
+
+pub all-accepted : (n : ℕ) (h : History) → Accepted n h → acceptedOf n h ≡ h
+unfolding acceptedOf
+all-accepted n [] a = refl
+all-accepted n (batch ∷ h) a = rw (a batch (here refl)) (ap (λ k. batch ∷ k) (all-accepted n h (λ b i. a b (there i))))
+
+pub not-lived : {up : List ℕ} → aloneVerdict up ≡ Sound → Lived up []
+not-lived e = record { tree = e; batches = λ b i. absurd (empty i) }
+
+-- what Start and a run of Adds leave
+pub ran-leaves : (up : List ℕ) (run : History) (t : Tables) → aloneVerdict up ≡ Sound → lengthsVerdict up t ≡ Sound → ran up run t ≡ tables up (acceptedOf (length up) run)
+ran-leaves up run t e z = ap (λ r. added up run (r .lent)) (started up t (not-lived e) z) ∙ run-leaves up run [] (not-lived e)
 
 pub calls-live : CallsLive
 calls-live = record {
   start = started;
   after-batches = adds-more;
   with-links = adds;
-  all-calls = λ up h t l e.
-      let n : Lived up [] = record { tree = l .tree; batches = λ b i. absurd (empty i) } in
-      ap (λ r. added up h (r .lent)) (started up t n e) ∙ all-added up h [] n (l .batches);
+  all-calls = λ up h t l z. ran-leaves up h t (l .tree) z ∙ ap (tables up) (all-accepted (length up) h (l .batches));
 }
 
 pub limits : Limits

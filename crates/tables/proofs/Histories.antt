@@ -36,7 +36,7 @@ leaves-after up (batch ∷ h) t = leaves-after up h (after up (pairs batch) t) �
 abbrev alone : ℕ × ℕ → List ℕ
 alone p = p .0 ∷ (p .1 ∷ [])
 
-links-alone : (l : Cables) → links (map alone l) ≡ l
+pub links-alone : (l : Cables) → links (map alone l) ≡ l
 unfolding links pairs
 links-alone [] = refl
 links-alone (p ∷ l) = ap (λ k. p ∷ k) (links-alone l)
@@ -45,7 +45,7 @@ one-accepted : (n : ℕ) (p : ℕ × ℕ) → Good n p → batchVerdict n (alone
 unfolding batchVerdict numbersVerdict endsVerdict checks pairs
 one-accepted n p g = rw (lt-leb n (p .0) (g .one), lt-leb n (p .1) (g .two), ne-eqb (p .0) (p .1) (g .apart))
 
-alone-accepted : (n : ℕ) (l : Cables) → AllGood n l → Accepted n (map alone l)
+pub alone-accepted : (n : ℕ) (l : Cables) → AllGood n l → Accepted n (map alone l)
 alone-accepted n l g batch m = let (p, i, e) = Memᴰ·of-map alone l m in rw (← e) (one-accepted n p (g p i))
 
 pub only-links : OnlyLinks

@@ -23,6 +23,8 @@ pub mod Sized
 pub mod Counting
 pub mod Laws
 pub mod Calls
+pub mod Fullest
+pub mod Work
 pub mod Demand1
 pub mod Demand2
 pub mod Demand3

@@ -109,6 +109,10 @@ unfolding refuseLeast
 refuse-view why n p = by-cases (ltb (least n p) n) (λ t. inr (least n p, rw t refl)) (λ t. inl (rw t refl))
 
 -- what a refusal by the least machine tells
+pub verdict-view : (v : Verdict) → (v ≡ Sound) ⊎ ((why : Fault) × (place : ℕ) × (v ≡ Refused why place))
+verdict-view Sound = inl refl
+verdict-view (Refused why place) = inr (why, place, refl)
+
 pub record RefusedAt (n : ℕ) (p : ℕ → Bool) (v : ℕ) : Type 0 where
   pub machine : v < n
   pub fails : p v ≡ true

@@ -6,7 +6,7 @@ use Prim.Native.Nat.{ℕ, _*_, _-_, _%_, _≤_}
 use lib.ListN.{length}
 use Rattle.plain.specs.Table.{total}
 use Rattle.graph.specs.Cable.{Cables}
-use Rattle.tables.specs.Verdict.{Fault, numberOf, faults, Sound, Refused}
+use Rattle.tables.specs.Verdict.{Fault, numberOf, faults, Verdict, Sound, Refused}
 use Rattle.tables.specs.Answer.{done, refusal}
 use Rattle.tables.specs.Tree.{sizeVerdict}
 use Rattle.tables.specs.Tables.{Tables, lengthsVerdict}
@@ -25,6 +25,16 @@ pub record Adds (up batch : List ℕ) (t t′ : Tables) : Type 0 where
 unfoldable pub added : List ℕ → History → Tables → Tables
 added up [] t = t
 added up (batch ∷ h) t = added up h (addOf up batch t .lent)
+
+-- a batch in front of the others, where it is accepted
+abbrev keptBy : Verdict → List ℕ → History → History
+keptBy Sound batch h = batch ∷ h
+keptBy (Refused why place) batch h = h
+
+-- the batches of a run that are accepted on n machines, in their order
+unfoldable pub acceptedOf : ℕ → History → History
+acceptedOf n [] = []
+acceptedOf n (batch ∷ run) = keptBy (batchVerdict n batch) batch (acceptedOf n run)
 
 -- what Start, and then an Add for each batch, leave of lent tables
 abbrev pub ran : List ℕ → History → Tables → Tables
