@@ -31,6 +31,10 @@ refutes {b} s q = by-cases b (λ e. absurd (q (s .gives e))) (λ e. e)
 pub says-map : {b : Bool} {P Q : Type 0} → (P → Q) → (Q → P) → Says b P → Says b Q
 says-map f g s = record { gives = λ e. f (s .gives e); takes = λ q. s .takes (g q) }
 
+-- a test says of itself that it is true
+pub says-true : (b : Bool) → Says b (b ≡ true)
+says-true b = record { gives = λ e. e; takes = λ e. e }
+
 pub says-eq : (a b : ℕ) → Says (eqb a b) (a ≡ b)
 says-eq a b = record { gives = eqb-true a b; takes = eq-eqb a b }
 

@@ -64,10 +64,14 @@ adds up l st batch =
       rises = omega arith;
     })
 
-links-append : (h : History) (batch : List ℕ) → links (h ++ (batch ∷ [])) ≡ links h ++ pairs batch
+pub links-append : (g h : History) → links (g ++ h) ≡ links g ++ links h
 unfolding links
-links-append [] batch = append-nil (pairs batch)
-links-append (b ∷ h) batch = ap (λ l. pairs b ++ l) (links-append h batch) ∙ sym (append-assoc (pairs b) (links h) (pairs batch))
+links-append [] h = refl
+links-append (b ∷ g) h = ap (λ l. pairs b ++ l) (links-append g h) ∙ sym (append-assoc (pairs b) (links g) (links h))
+
+links-more : (h : History) (batch : List ℕ) → links (h ++ (batch ∷ [])) ≡ links h ++ pairs batch
+unfolding links
+links-more h batch = links-append h (batch ∷ []) ∙ ap (λ l. links h ++ l) (append-nil (pairs batch))
 
 started : (up : List ℕ) (t : Tables) → Lived up [] → lengthsVerdict up t ≡ Sound → startOf up t ≡ outcome (done (length up)) (tables up [])
 unfolding startVerdict startOf checks judged leaves
@@ -75,7 +79,7 @@ started up t l e = rw (e, alone-passed up (l .tree) .1)
 
 pub adds-more : (up : List ℕ) (h : History) → Lived up h → (batch : List ℕ) → Adds up batch (tables up h) (tables up (h ++ (batch ∷ [])))
 adds-more up h l batch =
-    rw (only-links .leave up h, only-links .leave up (h ++ (batch ∷ [])), links-append h batch) (adds up (links h) (only-links .stand up h l) batch)
+    rw (only-links .leave up h, only-links .leave up (h ++ (batch ∷ [])), links-more h batch) (adds up (links h) (only-links .stand up h l) batch)
 
 -- an accepted batch more
 pub lived-more : {up : List ℕ} {h : History} (batch : List ℕ) → Lived up h → batchVerdict (length up) batch ≡ Sound → Lived up (h ++ (batch ∷ []))
@@ -90,6 +94,14 @@ run-leaves up (batch ∷ run) g l = ⊎-elim
     ∙ ap (tables up) (append-assoc g (batch ∷ []) (acceptedOf (length up) run))))
     (λ (why, place, e). rw e (ap (λ r. added up run (r .lent)) (adds-more up g l batch .refused why place e) ∙ run-leaves up run g l))
     (verdict-view (batchVerdict (length up) batch))
+
+pub accepted-append : (n : ℕ) (run more : History) → acceptedOf n (run ++ more) ≡ acceptedOf n run ++ acceptedOf n more
+unfolding acceptedOf
+accepted-append n [] more = refl
+accepted-append n (batch ∷ run) more = ⊎-elim
+    (λ e. rw e (ap (λ h. batch ∷ h) (accepted-append n run more)))
+    (λ (why, place, e). rw e (accepted-append n run more))
+    (verdict-view (batchVerdict n batch))
 
 pub accepted-of : (n : ℕ) (run : History) → Accepted n (acceptedOf n run)
 unfolding acceptedOf

@@ -17,7 +17,7 @@ use Rattle.tables.specs.Tables.{Tables}
 use Rattle.tables.specs.Links.{Stands, tablesWith}
 use Rattle.tables.specs.History.{History, Lived, links, tables}
 use Rattle.tables.specs.Rules.{tablesVerdict}
-use Rattle.tables.specs.Report.{Bytes, machineByte, linkByte, machineBytes, linkBytes}
+use Rattle.tables.specs.Report.{Bytes, bytesOf, machineByte, linkByte, machineBytes, linkBytes}
 use Rattle.tables.specs.Outcome.{judged, outputsVerdict, reportVerdict, reportOf}
 use Rattle.tables.specs.Demand1.{SoundTree}
 use Rattle.tables.specs.Demand2.{Reported, Counted, CrossSpare, ChokesNamed, Relied, Demand2}
@@ -44,6 +44,10 @@ module _ {up : List ℕ} {l : Cables} (st : Stands up l) where
   module _ (o : Bytes) (a : length (o .machines) ≡ length up) (b : length (o .links) ≡ length up) where
     report-passes : reportVerdict up t o ≡ Sound
     report-passes = report-came up t (lengths-met s (standing st .good) (standing st .size)) (standing st .tree) o a b ∙ sound-all _ (rules-met s (standing st .good), tt)
+
+    pub report-lent : reportOf up t o .lent ≡ bytesOf (machineBytes up t) (linkBytes up t)
+    unfolding judged reportOf
+    report-lent = rw report-passes refl
 
     counted : Counted (reportOf up t o .lent .machines) (reportOf up t o .answer .value)
     unfolding judged reportOf

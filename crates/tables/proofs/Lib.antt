@@ -25,9 +25,11 @@ pub mod Laws
 pub mod Calls
 pub mod Fullest
 pub mod Work
+pub mod Labels
 pub mod Demand1
 pub mod Demand2
 pub mod Demand3
+pub mod Moving
 pub mod Codes
 pub mod Order
 pub mod Worked

@@ -10,7 +10,7 @@ use native.Mathlib.Omega.{arith}
 use lib.ListN.{length}
 use lib.Dec.{eqb}
 use borrow.Author.Tests.{eq-eqb, ne-eqb}
-use Rattle.plain.specs.Search.{count}
+use Rattle.plain.specs.Search.{some, count}
 use Rattle.plain.specs.Table.{at}
 use Rattle.plain.proofs.Says.{Says, says-map, says-eq, says-le, says-not, says-and, says-or, says-some, refuted, refutes, by-cases}
 use Rattle.plain.proofs.Count.{count-other}
@@ -29,7 +29,7 @@ use Rattle.rings.proofs.Lone.{reason-three-never}
 use Rattle.tables.specs.Tree.{hub}
 use Rattle.tables.specs.AsTree.{treeOf}
 use Rattle.tables.specs.Tables.{Tables}
-use Rattle.tables.specs.Report.{child, stuck, split, ends, lone, machineByte, linkByte}
+use Rattle.tables.specs.Report.{child, carriedMember, stuck, split, ends, lone, machineByte, linkByte}
 use Rattle.tables.proofs.Told.{Told, group-name, group-law}
 
 module _ {up : List ℕ} {L : Relation} {t : Tables} (N : Network (treeOf up) L) (link? : Decided L) (k : Told up L t) where
@@ -68,6 +68,18 @@ module _ {up : List ℕ} {L : Relation} {t : Tables} (N : Network (treeOf up) L)
   split-choke : ((c : ℕ) × (d : ℕ) × Split (treeOf up) L (hub up) c d) ↔ Chokes (hub up)
   split-choke = Iff·symm (hub-chokes (treeOf up) L N link?)
 
+  -- a choke other than the hub has a child
+  pub choke-child : (w : ℕ) → w < length up → w ≢ hub up → Chokes w → (c : ℕ) × Uplink (treeOf up) c w
+  choke-child w h o q = let (c, (r, _)) = stuck-choke w h o .1 q in (c, r)
+
+  -- where a machine with a child is no choke, a child of it is carried
+  pub carried-child : {w c : ℕ} → w < length up → w ≢ hub up → ¬ Chokes w → Uplink (treeOf up) c w → (m : ℕ) × Uplink (treeOf up) m w × (at (t .mark) m ≡ 2)
+  carried-child {w} {c} h o q r =
+      let a = says-some (length up) (λ m _. says-and (says-eq (at (t .group) m) (at (t .group) c)) (says-eq (at (t .mark) m) 2)) in
+      by-cases (some (length up) (carriedMember (t .group) (t .mark) (at (t .group) c)))
+      (λ e. let (m, l, (g, z)) = a .gives e in (m, member r (kin r l (sym g)), z))
+      (λ e. absurd (q (stuck-choke w h o .0 (c, (r, λ m g p. let l = member r g .low in refuted a e (m, l, (sym (group-name (k .named) g), k .marked .carried m l .1 p)))))))
+
   says-ends : (w v : ℕ) → Says (ends (hub up) up w v) ((v ≢ hub up) × ((v ≡ w) ⊎ (at up v ≡ w)))
   unfolding ends
   says-ends w v = says-and (says-not (says-eq v (hub up))) (says-or (says-eq v w) (says-eq (at up v) w))
@@ -98,12 +110,12 @@ module _ {up : List ℕ} {L : Relation} {t : Tables} (N : Network (treeOf up) L)
           f
 
   -- what a machine byte tells
-  data Byte (w : ℕ) : ℕ → Type 0 where
+  pub data Byte (w : ℕ) : ℕ → Type 0 where
     one : w ≢ hub up → Chokes w → Byte w 1
     two : w ≡ hub up → Chokes w → Byte w 2
     nought : ¬ Chokes w → Byte w 0
 
-  byte-is : (w : ℕ) → w < length up → Byte w (machineByte (hub up) up (t .group) (t .mark) w)
+  pub byte-is : (w : ℕ) → w < length up → Byte w (machineByte (hub up) up (t .group) (t .mark) w)
   unfolding machineByte
   byte-is w h = dite (ℕ-discrete w (hub up))
       (λ e. let a = says-map (split-choke .0) (split-choke .1) (says-split (hub up)) in

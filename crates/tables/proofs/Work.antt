@@ -56,7 +56,7 @@ fresh-total up = total-zeros (length up)
 
 module _ (up : List ℕ) (t : Tables) (e : aloneVerdict up ≡ Sound) (z : lengthsVerdict up t ≡ Sound) where
   -- Start leaves the tables of the empty history
-  opened : startOf up t .lent ≡ tables up []
+  pub opened : startOf up t .lent ≡ tables up []
   opened = ap (λ r. r .lent) (calls-live .start up t (not-lived e) z)
 
   sum : (run : History) → work up run t ≡ total (ran up run t .mark)
@@ -65,7 +65,7 @@ module _ (up : List ℕ) (t : Tables) (e : aloneVerdict up ≡ Sound) (z : lengt
       rw opened (omega (arith, sums up run [] (not-lived e), none))
 
   -- the sum, by the tables of the accepted batches
-  by-tables : (run : History) → work up run t ≡ total (tables up (acceptedOf (length up) run) .mark)
+  pub by-tables : (run : History) → work up run t ≡ total (tables up (acceptedOf (length up) run) .mark)
   by-tables run = sum run ∙ ap (λ u. total (u .mark)) (ran-leaves up run t e z)
 
   sound : SoundTree up
