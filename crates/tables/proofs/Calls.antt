@@ -22,7 +22,7 @@ use Rattle.tables.specs.History.{History, Accepted, Lived, links, leaves
 use Rattle.tables.specs.Rules.{rulesVerdict, tablesVerdict}
 use Rattle.tables.specs.Outcome.{outcome, judged, startVerdict, startOf, addVerdict, addOf}
 use Rattle.tables.specs.Demand1.{SoundTree}
-use Rattle.tables.specs.Calls.{Adds, added, acceptedOf, ran, CallsLive, Limits}
+use Rattle.tables.specs.Calls.{Adds, added, acceptedOf, CallsLive, Limits}
 use Rattle.tables.proofs.Standing.{alone-passed, standing}
 use Rattle.tables.proofs.Verdicts.{checks-one, unless-sound, unless-refused, verdict-view}
 use Rattle.tables.proofs.Lengths.{size-exact, sizes-exact}
@@ -123,16 +123,12 @@ all-accepted n (batch ∷ h) a = rw (a batch (here refl)) (ap (λ k. batch ∷ k
 pub not-lived : {up : List ℕ} → aloneVerdict up ≡ Sound → Lived up []
 not-lived e = record { tree = e; batches = λ b i. absurd (empty i) }
 
--- what Start and a run of Adds leave
-pub ran-leaves : (up : List ℕ) (run : History) (t : Tables) → aloneVerdict up ≡ Sound → lengthsVerdict up t ≡ Sound → ran up run t ≡ tables up (acceptedOf (length up) run)
-ran-leaves up run t e z = ap (λ r. added up run (r .lent)) (started up t (not-lived e) z) ∙ run-leaves up run [] (not-lived e)
-
 pub calls-live : CallsLive
 calls-live = record {
   start = started;
   after-batches = adds-more;
   with-links = adds;
-  all-calls = λ up h t l z. ran-leaves up h t (l .tree) z ∙ ap (tables up) (all-accepted (length up) h (l .batches));
+  all-calls = λ up run t e z. ap (λ r. added up run (r .lent)) (started up t (not-lived e) z) ∙ run-leaves up run [] (not-lived e);
 }
 
 pub limits : Limits

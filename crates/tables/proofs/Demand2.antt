@@ -20,6 +20,7 @@ use Rattle.tables.specs.Rules.{tablesVerdict}
 use Rattle.tables.specs.Report.{Bytes, bytesOf, machineByte, linkByte, machineBytes, linkBytes}
 use Rattle.tables.specs.Outcome.{judged, outputsVerdict, reportVerdict, reportOf}
 use Rattle.tables.specs.Demand1.{SoundTree}
+use Rattle.tables.specs.Calls.{acceptedOf}
 use Rattle.tables.specs.Demand2.{Reported, Counted, CrossSpare, ChokesNamed, Relied, Demand2}
 use Rattle.tables.proofs.Standing.{standing}
 use Rattle.tables.proofs.Verdicts.{all-sound, sound-all}
@@ -31,7 +32,7 @@ use Rattle.tables.proofs.Histories.{only-links}
 use Rattle.tables.proofs.Reports.{machine-bytes, hub-byte, link-bytes, link-small, never-three}
 use Rattle.tables.proofs.Cabling.{linked-cabled, machine-cabled, uplink-cabled}
 use Rattle.tables.proofs.Counting.{named-list}
-use Rattle.tables.proofs.Calls.{rules-met, lengths-met, calls-live}
+use Rattle.tables.proofs.Calls.{rules-met, lengths-met, lived-run, not-lived, calls-live}
 use Rattle.tables.proofs.Demand1.{rules-links, site-of, report-came}
 
 module _ {up : List ℕ} {l : Cables} (st : Stands up l) where
@@ -101,7 +102,9 @@ after-batches up h l = rw (only-links .leave up h) (chokes-named (only-links .st
 pub demand2 : Demand2
 unfolding machineBytes tablesVerdict
 demand2 = record {
-  after-calls = λ up h t l e. subst (ChokesNamed up (links h)) (sym (calls-live .all-calls up h t l e)) (after-batches up h l);
+  after-calls = λ up run t e z.
+      let h = acceptedOf (length up) run in
+      subst (ChokesNamed up (links h)) (sym (calls-live .all-calls up run t e z)) (after-batches up h (lived-run run (not-lived e)));
   with-links = λ up l. chokes-named;
   code-zero = code-zero;
   never-three = λ up t d g m v w h.

@@ -87,6 +87,10 @@ module _ {up : List ℕ} (s : SoundTree up) where
         rw (← most-total) (total-le (tablesWith up l .mark) (tabulate (length up) (mostMark up)) (length-tabulate (length up) (mostMark up) ∙ sym size)
         (λ v h. let i : v < length up = rw size at h in rw (at-tabulate (length up) (mostMark up) v i) (mark-bound v i)))
 
+  hop-in : (v : ℕ) → v < length up → v ≢ hub up → (v, at up (at up v)) ∈ hops up
+  unfolding hops
+  hop-in v h o = Memᴰ·map _ (uplink-on up v (at up v) .1 (uplinked h o))
+
   hop-good : (x y : ℕ) → Uplink (treeOf up) x y → Good (length up) (x, at up y)
   hop-good x y r = record {
     one = r .low;
@@ -98,10 +102,6 @@ module _ {up : List ℕ} (s : SoundTree up) where
   pub hops-good : AllGood (length up) (hops up)
   unfolding hops
   hops-good p m = let (q, i, e) = Memᴰ·of-map _ _ m in rw (← e) (hop-good (q .0) (q .1) (uplink-on up (q .0) (q .1) .0 i))
-
-  hop-in : (v : ℕ) → v < length up → v ≢ hub up → (v, at up (at up v)) ∈ hops up
-  unfolding hops
-  hop-in v h o = Memᴰ·map _ (uplink-on up v (at up v) .1 (uplinked h o))
 
   hop-rings : (v : ℕ) → v < length up → v ≢ hub up → Rings (treeOf up) (Linked (hops up)) v
   hop-rings v h o =

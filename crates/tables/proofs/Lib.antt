@@ -33,3 +33,4 @@ pub mod Moving
 pub mod Codes
 pub mod Order
 pub mod Worked
+pub mod WorkedRuns

@@ -1,6 +1,6 @@
 -- How often labels move over a run: each Add leaves the tables of a history with more links, so labels only go out, and what moved is what the
 -- first report named and the last does not, for which the last marks pay.
-use mathlib.Core.Path.{_≡_, refl, sym, ap, _∙_}
+use mathlib.Core.Path.{_≡_}
 use mathlib.Core.List.{List, [], _∷_, _++_}
 use mathlib.Core.Logic.{inl}
 use Prim.Native.Nat.{ℕ, suc, _+_, _≤_}
@@ -16,16 +16,16 @@ use Rattle.tables.specs.Tables.{Tables, lengthsVerdict}
 use Rattle.tables.specs.Links.{Stands, tablesWith}
 use Rattle.tables.specs.History.{History, Lived, links, tables}
 use Rattle.tables.specs.Report.{Bytes, bytesOf, named, machineBytes, linkBytes}
-use Rattle.tables.specs.Outcome.{startOf, addOf}
+use Rattle.tables.specs.Outcome.{startOf}
 use Rattle.tables.specs.Calls.{acceptedOf, added, ran}
 use Rattle.tables.specs.Work.{work}
-use Rattle.tables.specs.Labels.{labels, differing, moved, movesOf, Falls, LabelsOf, Labels}
+use Rattle.tables.specs.Labels.{labels, moved, movesOf, Falls, Labels}
 use Rattle.tables.proofs.Standing.{standing}
 use Rattle.tables.proofs.Sound.{sound-tree}
 use Rattle.tables.proofs.Links.{network, told}
 use Rattle.tables.proofs.Histories.{only-links}
 use Rattle.tables.proofs.Demand2.{report-lent}
-use Rattle.tables.proofs.Calls.{links-append, accepted-append, lived-run, run-leaves, ran-leaves, not-lived}
+use Rattle.tables.proofs.Calls.{links-append, accepted-append, lived-run, run-leaves, not-lived, calls-live}
 use Rattle.tables.proofs.Work.{opened, by-tables}
 use Rattle.tables.proofs.Labels.{differ, machines-fall, links-fall, labels-paid}
 
@@ -100,7 +100,7 @@ module _ (up : List ℕ) (o : Bytes) (a : length (o .machines) ≡ length up) (b
         let g = acceptedOf (length up) run in
         let l : Lived up g = lived-run run (not-lived e) in
         let k = goes g more l in
-        rw (ran-leaves up run t e z, ran-leaves up (run ++ more) t e z, accepted-append (length up) run more, labels-are g l, labels-are (g ++ acceptedOf (length up) more) (lived-run more l)) (k .machines, k .uplinks)
+        rw (calls-live .all-calls up run t e z, calls-live .all-calls up (run ++ more) t e z, accepted-append (length up) run more, labels-are g l, labels-are (g ++ acceptedOf (length up) more) (lived-run more l)) (k .machines, k .uplinks)
 
     in-all : (run : History) → movesOf up o run (startOf up t .lent) ≤ suc (work up run t)
     in-all run =

@@ -18,7 +18,7 @@ use Rattle.graph.specs.Walk.{Relation, Walk}
 use Rattle.graph.specs.Choke.{Choke}
 use Rattle.rings.specs.Tree.{Uplink}
 use Rattle.rings.specs.Network.{Network, Cabled, CabledBut}
-use Rattle.rings.specs.Ring.{Rings}
+use Rattle.rings.specs.Ring.{Rings, Carries}
 use Rattle.rings.specs.Group.{SameGroup, Stuck, Split}
 use Rattle.rings.specs.Statements.{Decided}
 use Rattle.rings.proofs.Under.{uplinked}
@@ -41,13 +41,23 @@ module _ {up : List ℕ} {L : Relation} {t : Tables} (N : Network (treeOf up) L)
   kin : {w c d : ℕ} → Uplink (treeOf up) c w → d < length up → at (t .group) c ≡ at (t .group) d → SameGroup (treeOf up) L w c d
   kin {c = c} {d} r h e = rw (r .to) at (group-law N (k .named) c d (r .low) h .0 e)
 
+  -- m is of the group of g and carried, by the tables
+  abbrev CarriedIn : ℕ → ℕ → Type 0
+  CarriedIn g m = (at (t .group) m ≡ g) × (at (t .mark) m ≡ 2)
+
+  says-carried : (g : ℕ) → Says (some (length up) (carriedMember (t .group) (t .mark) g)) ((m : ℕ) × (m < length up) × CarriedIn g m)
+  says-carried g = says-some (length up) (λ m _. says-and (says-eq (at (t .group) m) g) (says-eq (at (t .mark) m) 2))
+
+  -- and by the links
+  carried-in : {w c : ℕ} → Uplink (treeOf up) c w → (m : ℕ) → SameGroup (treeOf up) L w c m → Carries (treeOf up) L m → (d : ℕ) × (d < length up) × CarriedIn (at (t .group) c) d
+  carried-in r m g p = let l = member r g .low in (m, l, (sym (group-name (k .named) g), k .marked .carried m l .1 p))
+
   says-stuck : (w : ℕ) → Says (stuck (hub up) up (t .group) (t .mark) w) ((c : ℕ) × Stuck (treeOf up) L w c)
   unfolding stuck
   says-stuck w = says-map
-      (λ (c, h, (r, q)). (c, (r, λ m g p. let l = member r g .low in q (m, l, (sym (group-name (k .named) g), k .marked .carried m l .1 p)))))
+      (λ (c, h, (r, q)). (c, (r, λ m g p. q (carried-in r m g p))))
       (λ (c, (r, q)). (c, r .low, (r, λ (m, l, (e, z)). q m (kin r l (sym e)) (k .marked .carried m l .0 z))))
-      (says-some (length up) (λ c h. says-and (says-child w c h)
-      (says-not (says-some (length up) (λ m _. says-and (says-eq (at (t .group) m) (at (t .group) c)) (says-eq (at (t .mark) m) 2))))))
+      (says-some (length up) (λ c h. says-and (says-child w c h) (says-not (says-carried (at (t .group) c)))))
 
   says-split : (w : ℕ) → Says (split (hub up) up (t .group) w) ((c : ℕ) × (d : ℕ) × Split (treeOf up) L w c d)
   unfolding split
@@ -75,10 +85,10 @@ module _ {up : List ℕ} {L : Relation} {t : Tables} (N : Network (treeOf up) L)
   -- where a machine with a child is no choke, a child of it is carried
   pub carried-child : {w c : ℕ} → w < length up → w ≢ hub up → ¬ Chokes w → Uplink (treeOf up) c w → (m : ℕ) × Uplink (treeOf up) m w × (at (t .mark) m ≡ 2)
   carried-child {w} {c} h o q r =
-      let a = says-some (length up) (λ m _. says-and (says-eq (at (t .group) m) (at (t .group) c)) (says-eq (at (t .mark) m) 2)) in
+      let a = says-carried (at (t .group) c) in
       by-cases (some (length up) (carriedMember (t .group) (t .mark) (at (t .group) c)))
       (λ e. let (m, l, (g, z)) = a .gives e in (m, member r (kin r l (sym g)), z))
-      (λ e. absurd (q (stuck-choke w h o .0 (c, (r, λ m g p. let l = member r g .low in refuted a e (m, l, (sym (group-name (k .named) g), k .marked .carried m l .1 p)))))))
+      (λ e. absurd (q (stuck-choke w h o .0 (c, (r, λ m g p. refuted a e (carried-in r m g p))))))
 
   says-ends : (w v : ℕ) → Says (ends (hub up) up w v) ((v ≢ hub up) × ((v ≡ w) ⊎ (at up v ≡ w)))
   unfolding ends

@@ -23,7 +23,7 @@ use Rattle.tables.proofs.Codes.{numbered}
 use Rattle.tables.proofs.Standing.{alone-passed}
 use Rattle.tables.proofs.Sound.{sound-tree}
 use Rattle.tables.proofs.Histories.{links-good, links-alone, alone-accepted, only-links}
-use Rattle.tables.proofs.Calls.{adds-more, accepted-of, lived-run, run-leaves, ran-leaves, all-accepted, not-lived, calls-live}
+use Rattle.tables.proofs.Calls.{adds-more, accepted-of, lived-run, run-leaves, all-accepted, not-lived, calls-live}
 use Rattle.tables.proofs.Fullest.{total-bound, hops-good, hops-total}
 
 refusal-worth : (why : Fault) (place : ℕ) → worth (refusal why place) ≡ 0
@@ -66,7 +66,12 @@ module _ (up : List ℕ) (t : Tables) (e : aloneVerdict up ≡ Sound) (z : lengt
 
   -- the sum, by the tables of the accepted batches
   pub by-tables : (run : History) → work up run t ≡ total (tables up (acceptedOf (length up) run) .mark)
-  by-tables run = sum run ∙ ap (λ u. total (u .mark)) (ran-leaves up run t e z)
+  by-tables run = sum run ∙ ap (λ u. total (u .mark)) (calls-live .all-calls up run t e z)
+
+  as-accepted : (run : History) → ran up run t ≡ ran up (acceptedOf (length up) run) t
+  as-accepted run =
+      let n = length up in
+      calls-live .all-calls up run t e z ∙ ap (tables up) (sym (all-accepted n (acceptedOf n run) (accepted-of n run))) ∙ sym (calls-live .all-calls up (acceptedOf n run) t e z)
 
   sound : SoundTree up
   sound = sound-tree up (alone-passed up e .1)
@@ -85,10 +90,7 @@ module _ (up : List ℕ) (t : Tables) (e : aloneVerdict up ≡ Sound) (z : lengt
   work-of : WorkOf up t
   work-of = record {
     sum = sum;
-    refused-nothing = λ run. (
-      by-tables run ∙ sym (by-tables (acceptedOf (length up) run) ∙ ap (λ h. total (tables up h .mark)) (all-accepted (length up) (acceptedOf (length up) run) (accepted-of (length up) run))),
-      ran-leaves up run t e z,
-    );
+    refused-nothing = λ run. let same = as-accepted run in (sum run ∙ ap (λ u. total (u .mark)) same ∙ sym (sum (acceptedOf (length up) run)), same);
     bound = bounded;
     reached = is-reached;
   }

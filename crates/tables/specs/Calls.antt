@@ -8,7 +8,7 @@ use Rattle.plain.specs.Table.{total}
 use Rattle.graph.specs.Cable.{Cables}
 use Rattle.tables.specs.Verdict.{Fault, numberOf, faults, Verdict, Sound, Refused}
 use Rattle.tables.specs.Answer.{done, refusal}
-use Rattle.tables.specs.Tree.{sizeVerdict}
+use Rattle.tables.specs.Tree.{sizeVerdict, aloneVerdict}
 use Rattle.tables.specs.Tables.{Tables, lengthsVerdict}
 use Rattle.tables.specs.Batch.{pairs, numbersVerdict, batchVerdict}
 use Rattle.tables.specs.Links.{Stands, tablesWith}
@@ -41,12 +41,12 @@ abbrev pub ran : List ℕ → History → Tables → Tables
 ran up h t = added up h (startOf up t .lent)
 
 -- from nothing to the empty history, from a history to the longer one, and from links to these with those of the batch; so the calls of a
--- history, one after another, leave its tables
+-- run, one after another, leave the tables of its accepted batches
 pub record CallsLive : Type 0 where
   pub start : (up : List ℕ) (t : Tables) → Lived up [] → lengthsVerdict up t ≡ Sound → startOf up t ≡ outcome (done (length up)) (tables up [])
   pub after-batches : (up : List ℕ) (h : History) → Lived up h → (batch : List ℕ) → Adds up batch (tables up h) (tables up (h ++ (batch ∷ [])))
   pub with-links : (up : List ℕ) (l : Cables) → Stands up l → (batch : List ℕ) → Adds up batch (tablesWith up l) (tablesWith up (l ++ pairs batch))
-  pub all-calls : (up : List ℕ) (h : History) (t : Tables) → Lived up h → lengthsVerdict up t ≡ Sound → ran up h t ≡ tables up h
+  pub all-calls : (up : List ℕ) (run : History) (t : Tables) → aloneVerdict up ≡ Sound → lengthsVerdict up t ≡ Sound → ran up run t ≡ tables up (acceptedOf (length up) run)
 
 -- the codes are 1 to 14 and 27; all that is done has 0, and no fault has
 pub record Codes : Type 0 where

@@ -12,14 +12,14 @@ use Rattle.graph.specs.Path.{Once}
 use Rattle.graph.specs.Cable.{Cables, Linked}
 use Rattle.tables.specs.Verdict.{Sound}
 use Rattle.tables.specs.Answer.{Answer}
-use Rattle.tables.specs.Tree.{hub}
+use Rattle.tables.specs.Tree.{hub, aloneVerdict}
 use Rattle.tables.specs.Tables.{Tables, lengthsVerdict}
 use Rattle.tables.specs.Links.{Stands, tablesWith, SiteOf}
-use Rattle.tables.specs.History.{History, Lived, links}
+use Rattle.tables.specs.History.{History, links}
 use Rattle.tables.specs.Rules.{tablesVerdict}
 use Rattle.tables.specs.Report.{Bytes, machineBytes}
 use Rattle.tables.specs.Outcome.{Outcome, reportOf}
-use Rattle.tables.specs.Calls.{ran}
+use Rattle.tables.specs.Calls.{acceptedOf, ran}
 use Rattle.tables.specs.Cables.{cables, ChokeMachine, ChokeUplink}
 
 -- the report names exactly the chokes of the site with these links; a choke hub's byte is 2, a link byte is 1 or 0
@@ -53,8 +53,9 @@ pub record Relied (up : List ℕ) (t : Tables) (r : Outcome Answer Bytes) : Type
   pub counted : Counted (r .lent .machines) (r .answer .value)
 
 pub record Demand2 : Type 0 where
-  -- after any run of batches: Start, and an Add for each
-  pub after-calls : (up : List ℕ) (h : History) (t : Tables) → Lived up h → lengthsVerdict up t ≡ Sound → ChokesNamed up (links h) (ran up h t)
+  -- after any run of batches, refused ones among them: Start, and an Add for each; the links are those of the accepted ones
+  pub after-calls : (up : List ℕ) (run : History) (t : Tables) → aloneVerdict up ≡ Sound → lengthsVerdict up t ≡ Sound
+      → ChokesNamed up (links (acceptedOf (length up) run)) (ran up run t)
   -- with any links that stand, however they came
   pub with-links : (up : List ℕ) (l : Cables) → Stands up l → ChokesNamed up l (tablesWith up l)
   -- with any tables at all, where the answer is 0

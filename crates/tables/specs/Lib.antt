@@ -19,3 +19,4 @@ pub mod Demand3
 pub mod Work
 pub mod Labels
 pub mod Worked
+pub mod WorkedRuns

@@ -13,7 +13,7 @@ use Rattle.tables.specs.Verdict.{Sound}
 use Rattle.tables.specs.Answer.{Answer}
 use Rattle.tables.specs.Tree.{hub, aloneVerdict}
 use Rattle.tables.specs.Tables.{Tables, lengthsVerdict}
-use Rattle.tables.specs.History.{History, Accepted, tables}
+use Rattle.tables.specs.History.{History, Accepted}
 use Rattle.tables.specs.Report.{child}
 use Rattle.tables.specs.Outcome.{startOf, addOf}
 use Rattle.tables.specs.Cables.{uplinks}
@@ -49,7 +49,7 @@ pub record WorkOf (up : List ℕ) (t : Tables) : Type 0 where
   -- the values that Add returned sum to the final marks added up
   pub sum : (run : History) → work up run t ≡ total (ran up run t .mark)
   -- refused batches add nothing and change nothing: it is as if only the accepted ones had come
-  pub refused-nothing : (run : History) → (work up run t ≡ work up (acceptedOf (length up) run) t) × (ran up run t ≡ tables up (acceptedOf (length up) run))
+  pub refused-nothing : (run : History) → (let h = acceptedOf (length up) run in (work up run t ≡ work up h t) × (ran up run t ≡ ran up h t))
   -- the sum never passes the bound
   pub bound : (run : History) → work up run t ≤ mostWork up
   -- and a history of accepted batches reaches it

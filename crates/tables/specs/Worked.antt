@@ -28,10 +28,10 @@ pub record Row : Type 0 where
   pub byHand : Result
 
 -- lent slices of n nines
-abbrev nines : ℕ → Tables
+abbrev pub nines : ℕ → Tables
 nines n = tablesOf (replicate n 9) (replicate n 9) (replicate n 9)
 
-abbrev nineBytes : ℕ → Bytes
+abbrev pub nineBytes : ℕ → Bytes
 nineBytes n = bytesOf (replicate n 9) (replicate n 9)
 
 unfoldable pub site : String → Site → Row
