@@ -7,7 +7,6 @@ use lib.ListN.{length}
 use lib.Dec.{leb}
 use borrow.Author.Tests.{le-leb}
 use Rattle.plain.specs.Table.{total}
-use Rattle.plain.specs.Laid.{laid}
 use Rattle.plain.proofs.Says.{says-and, says-eq, says-le}
 use Rattle.graph.proofs.Members.{here, there, empty, single, parts}
 use Rattle.tables.specs.declared.Fault.{Fault}
@@ -17,6 +16,7 @@ use Rattle.tables.specs.Batch.{batchVerdict}
 use Rattle.tables.specs.History as history
 use Rattle.tables.proofs.Verdicts.{all-sound, sound-all, unless-sound}
 use Rattle.tables.proofs.Lengths.{size-exact}
+use Rattle.tables.proofs.Standing.{alone-passed}
 use Rattle.checks.proofs.Checking.{told}
 use Rattle.tables.specs.Outcome.{judged}
 use Rattle.site.proofs.Callers.{answer-sound}
@@ -27,8 +27,7 @@ use Rattle.writer.specs.Statements.{batchesOf, Accepted, DoneExactly}
 
 -- what a check tells where it passes
 pub few-up : {c : Verdict} (up : List ℕ) → c ≡ Sound → c ≡ aloneVerdict up → length up ≤ mostMachines
-unfolding aloneVerdict
-few-up up e q = size-exact (length up) .0 (all-sound _ (told e q) .0) .1
+few-up up e q = size-exact (length up) .0 (alone-passed up (told e q) .0) .1
 
 pub parts-told : {c : Verdict} (numbers : ℕ) (lengths : List ℕ) (reports : ℕ) → c ≡ Sound → c ≡ partsVerdict numbers lengths reports → (reports ≡ length lengths) × (total lengths ≡ numbers)
 unfolding partsVerdict
@@ -51,6 +50,19 @@ batches-pass n [] a = refl
 batches-pass n (p ∷ plan) a = sound-all _ (a (p .batch) (here refl), (batches-pass n plan (λ b i. a b (there i)), tt))
 
 module _ (up links lengths reports : List ℕ) (room : ℕ) where
+  all-pass : Accepted up links lengths reports room → writeVerdict up links lengths reports room ≡ Sound
+  unfolding writeVerdict planVerdict partsVerdict roomVerdict
+  all-pass a =
+      let plan = planOf links lengths reports in
+      let p : partsVerdict (length links) lengths (length reports) ≡ Sound = rw (says-and (says-eq (length reports) (length lengths)) (says-eq (total lengths) (length links)) .takes (a .bytes, a .sum)) in
+      let b = batches-pass (length up) plan (a .batches) in
+      let w : planVerdict (length up) links lengths reports ≡ Sound = sound-all _ (search (p, b)) in
+      let s = le-leb (length (fileOf up plan)) mostBytes (a .short) in
+      let f = le-leb (length (fileOf up plan)) room (a .fits) in
+      let r : roomVerdict (length (fileOf up plan)) room ≡ Sound = rw (s, f) (sound-all (Sound ∷ Sound ∷ []) (refl, (refl, tt))) in
+      let t = a .tree in
+      sound-all _ (search (t, w, r))
+
   pub accepted : writeVerdict up links lengths reports room ≡ Sound → Accepted up links lengths reports room
   unfolding writeVerdict planVerdict roomVerdict
   accepted e =
@@ -70,24 +82,15 @@ module _ (up links lengths reports : List ℕ) (room : ℕ) where
         fits = says-le _ _ .gives (unless-sound (leb (length (fileOf up plan)) room) Fault.Short (length (fileOf up plan)) (search f));
       }
 
-  all-pass : Accepted up links lengths reports room → writeVerdict up links lengths reports room ≡ Sound
-  unfolding writeVerdict planVerdict partsVerdict roomVerdict
-  all-pass a =
-      let plan = planOf links lengths reports in
-      let p : partsVerdict (length links) lengths (length reports) ≡ Sound = rw (says-and (says-eq (length reports) (length lengths)) (says-eq (total lengths) (length links)) .takes (a .bytes, a .sum)) in
-      let b = batches-pass (length up) plan (a .batches) in
-      let w : planVerdict (length up) links lengths reports ≡ Sound = sound-all _ (search (p, b)) in
-      let s = le-leb (length (fileOf up plan)) mostBytes (a .short) in
-      let f = le-leb (length (fileOf up plan)) room (a .fits) in
-      let r : roomVerdict (length (fileOf up plan)) room ≡ Sound = rw (s, f) (sound-all (Sound ∷ Sound ∷ []) (refl, (refl, tt))) in
-      let t = a .tree in
-      sound-all _ (search (t, w, r))
+-- done where all of them pass, and only there
+is-done : (up links lengths reports out : List ℕ) → Accepted up links lengths reports (length out) → writeOf up links lengths reports out .answer .code ≡ 0
+unfolding writeOf judged
+is-done up links lengths reports out a = rw (all-pass up links lengths reports (length out) a)
+
+done-tells : (up links lengths reports out : List ℕ) → writeOf up links lengths reports out .answer .code ≡ 0 → Accepted up links lengths reports (length out)
+unfolding writeOf
+done-tells up links lengths reports out z =
+    accepted up links lengths reports (length out) (answer-sound _ _ _ (writeVerdict up links lengths reports (length out)) refl z .0)
 
 pub done-exactly : DoneExactly
-unfolding writeOf judged
-done-exactly up links lengths reports out =
-    let file = fileOf up (planOf links lengths reports) in
-    let v = writeVerdict up links lengths reports (length out) in (
-      λ z. accepted up links lengths reports (length out) (answer-sound out (length file) (laid file out) v refl z .0),
-      λ a. rw (all-pass up links lengths reports (length out) a),
-    )
+done-exactly up links lengths reports out = (done-tells up links lengths reports out, is-done up links lengths reports out)

@@ -2,13 +2,12 @@
 use mathlib.Core.Path.{_≡_, refl, sym, _∙_}
 use mathlib.Core.Bool.{Bool, true, false, not}
 use mathlib.Core.List.{List, [], _∷_}
-use Prim.Native.Nat.{ℕ, zero, suc, _+_, _-_, _^_, _<_, _≤_}
+use Prim.Native.Nat.{ℕ, zero, suc, _+_, _-_, _<_, _≤_}
 use native.Mathlib.Omega.{arith}
 use lib.ListN.{length, take, drop, drop-of-length-le}
 use lib.Dec.{eqb}
 use borrow.Author.Tests.{eq-eqb, ne-eqb, not-true, not-false}
 use Rattle.plain.specs.Table.{at, total}
-use Rattle.plain.proofs.Loops.{from-next}
 use Rattle.tables.specs.declared.Fault.{Fault}
 use Rattle.tables.specs.declared.Verdict.the-variants.{the-data as Verdict, Sound, Refused}
 use Rattle.tables.specs.Verdict.{checks}
@@ -16,7 +15,7 @@ use Rattle.tables.specs.Batch.{batchVerdict}
 use Rattle.tables.proofs.Verdicts.{passes, refuses, checks-one}
 use Rattle.writer.specs.Plan.{planOf}
 use Rattle.writer.specs.Written.{partsVerdict, batchesVerdict}
-use Rattle.writer.proofs.Planning.{planFrom, plan-next, plan-end, Cut, uncut, cut-inside, cut-next}
+use Rattle.writer.proofs.Planning.{total-next, planFrom, plan-next, plan-end, Cut, uncut, cut-next}
 
 same : (a b k : ℕ) → a + k ≡ b → eqb k 0 ≡ eqb a b
 same a b zero e = sym (eq-eqb a b (omega arith))
@@ -32,15 +31,11 @@ left-all lengths numbers = record { low = omega arith; rest = omega arith }
 
 module _ {lengths : List ℕ} {numbers left b : ℕ} (l : Left lengths numbers left b) where
   module _ (h : b < length lengths) {k : ℕ} (e : k ≡ at lengths b) where
-    next : total (drop b lengths) ≡ k + total (drop (b + 1) lengths)
-    unfolding total
-    next = rw (from-next lengths b h, e)
-
     pub left-short : left < k → false ≡ eqb (total lengths) numbers
-    left-short s = sym (ne-eqb (total lengths) numbers (λ q. omega (arith, next, l .rest)))
+    left-short s = sym (ne-eqb (total lengths) numbers (λ q. omega (arith, total-next lengths b h e, l .rest)))
 
     pub left-less : k ≤ left → Left lengths numbers (left - k) (b + 1)
-    left-less s = record { low = omega arith; rest = omega (arith, next, l .rest) }
+    left-less s = record { low = omega arith; rest = omega (arith, total-next lengths b h e, l .rest) }
 
   pub left-end : length lengths ≤ b → eqb left 0 ≡ eqb (total lengths) numbers
   unfolding total
@@ -76,22 +71,13 @@ module _ {n : ℕ} {links lengths : List ℕ} {from b : ℕ} (p : Passed n links
   unfolding batchesVerdict
   passed-all h reports = sym (p .rest reports ∙ rw (plan-end links lengths reports from b h))
 
-  module _ (h : b < length lengths) {k : ℕ} (e : k ≡ at lengths b) where
-    pub batch-inside : from + k ≤ length links
-    batch-inside = rw e (cut-inside (p .cut) h)
+  module _ {k : ℕ} {c : Verdict} (h : b < length lengths) (e : k ≡ at lengths b) (g : c ≡ batchVerdict n (take (from + k - from) (drop from links))) where
+    here : (reports : List ℕ) → batchesVerdict n (planOf links lengths reports) ≡ checks (c ∷ batchesVerdict n (planFrom links lengths reports (from + k) (b + 1)) ∷ [])
+    unfolding batchesVerdict
+    here reports = p .rest reports ∙ rw (g, plan-next links lengths reports from b h e)
 
-    pub batch-fits : length links < 2 ^ 64 → from + k < 2 ^ 64
-    batch-fits s = omega (arith, batch-inside)
+    pub refused : {why : Fault} {place : ℕ} → c ≡ Refused why place → (reports : List ℕ) → c ≡ batchesVerdict n (planOf links lengths reports)
+    refused s reports = sym (here reports ∙ refuses s _)
 
-    module _ {c : Verdict} (g : c ≡ batchVerdict n (take (from + k - from) (drop from links))) where
-      here : (reports : List ℕ) → batchesVerdict n (planOf links lengths reports) ≡ checks (c ∷ batchesVerdict n (planFrom links lengths reports (from + k) (b + 1)) ∷ [])
-      unfolding batchesVerdict
-      here reports =
-          let z : from + k - from ≡ k = omega arith in
-          p .rest reports ∙ rw (g, z, e, plan-next links lengths reports from b h)
-
-      pub refused : {why : Fault} {place : ℕ} → c ≡ Refused why place → (reports : List ℕ) → c ≡ batchesVerdict n (planOf links lengths reports)
-      refused s reports = sym (here reports ∙ refuses s _)
-
-      pub passed-more : c ≡ Sound → Passed n links lengths (from + k) (b + 1)
-      passed-more s = record { cut = rw e (cut-next (p .cut) h); rest = λ reports. here reports ∙ passes s _ ∙ checks-one _ }
+    pub passed-more : c ≡ Sound → Passed n links lengths (from + k) (b + 1)
+    passed-more s = record { cut = cut-next (p .cut) h e; rest = λ reports. here reports ∙ passes s _ ∙ checks-one _ }

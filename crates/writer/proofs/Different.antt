@@ -3,7 +3,7 @@
 use mathlib.Core.Path.{_≡_, refl, sym, ap, _∙_}
 use mathlib.Core.Bool.{Bool, true, false, cond, not}
 use mathlib.Core.List.{List, [], _∷_, _++_, map}
-use Prim.Native.Nat.{ℕ, _+_, _-_, _≤_}
+use Prim.Native.Nat.{ℕ, _≤_}
 use native.Mathlib.Omega.{arith}
 use lib.ListN.{length, take, drop, length-drop, take-append-drop}
 use lib.Seq.{length-take-le}
@@ -11,7 +11,7 @@ use lib.Dec.{eqb}
 use Rattle.plain.specs.Table.{total}
 use Rattle.writer.specs.Plan.{Part, planOf}
 use Rattle.writer.specs.Said.{Act, asks, says}
-use Rattle.writer.specs.Statements.{batchesOf, joined, PlanIs, acts, NeverTheSame}
+use Rattle.writer.specs.Statements.{batchesOf, numbersOf, PlanIs, acts, NeverTheSame}
 use Rattle.writer.proofs.ReadBack.{front-is, read-back}
 
 same-batch : (b c : Part) → b .batch ≡ c .batch → b .report ≡ c .report → b ≡ c
@@ -50,8 +50,8 @@ lengths-of (k ∷ lengths) links reports h =
     let f = lengths-of lengths (drop k links) (drop 1 reports) (omega (arith, length-drop k links)) in
     λ i. e i ∷ f i
 
-links-of : (lengths links reports : List ℕ) → total lengths ≡ length links → joined (batchesOf (planOf links lengths reports)) ≡ links
-unfolding planOf total joined
+links-of : (lengths links reports : List ℕ) → total lengths ≡ length links → numbersOf (batchesOf (planOf links lengths reports)) ≡ links
+unfolding planOf total numbersOf
 links-of [] [] reports h = refl
 links-of [] (x ∷ links) reports h = absurd (omega arith)
 links-of (k ∷ lengths) links reports h =
@@ -79,6 +79,6 @@ never-the-same up links lengths reports out up′ links′ lengths′ reports′
     record {
       tree = cc;
       batches = sym (c .lengths-are) ∙ ap (λ plan. map length (batchesOf plan)) p ∙ c′ .lengths-are;
-      numbers = sym (c .numbers) ∙ ap (λ plan. joined (batchesOf plan)) p ∙ c′ .numbers;
+      numbers = sym (c .numbers) ∙ ap (λ plan. numbersOf (batchesOf plan)) p ∙ c′ .numbers;
       asked = sym (c .asked) ∙ ap (map (λ p. p .report)) p ∙ c′ .asked;
     }

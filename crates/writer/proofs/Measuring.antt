@@ -6,7 +6,7 @@ use mathlib.Core.List.{List, [], _∷_, _++_}
 use Prim.Native.Nat.{ℕ, _+_, _*_, _/_, _^_, _<_, _≤_}
 use native.Mathlib.Omega.{arith}
 use lib.ListN.{length, take, drop, length-append, length-drop, drop-of-length-le}
-use lib.Seq.{length-take-le, getD-drop, drop-drop}
+use lib.Seq.{length-take-le, drop-drop}
 use lib.Dec.{leb, eqb}
 use borrow.Author.Tests.{eq-eqb, ne-eqb, le-leb, lt-leb, leb-true}
 use Rattle.plain.specs.Table.{at, total}
@@ -22,6 +22,7 @@ use Rattle.turns.specs.Printed.{mostBytes}
 use Rattle.writer.specs.Plan.{closeRecords, planOf, uplinkRecords, linkRecords, planRecords, fileOf}
 use Rattle.writer.specs.Written.{roomVerdict}
 use Rattle.writer.specs.Filling.{BatchLength, planLength, Measured}
+use Rattle.writer.proofs.Planning.{at-from}
 
 -- a batch and its close
 module _ (numbers report : ℕ) (h : numbers < 2 ^ 16) where
@@ -71,9 +72,7 @@ module _ {n : ℕ} {lengths reports : List ℕ} {sum b : ℕ} (m : Measuring n l
   module _ (h : b < length lengths) (s : sum ≤ mostBytes) {r : ℕ} (e : BatchLength (at lengths b) (at reports b) r) where
     next : planLength (drop b lengths) (drop b reports) ≡ r + planLength (drop (b + 1) lengths) (drop (b + 1) reports)
     unfolding planLength
-    next =
-        let z : b + 0 ≡ b = omega arith in
-        rw (from-next lengths b h, getD-drop b reports 0 0, z, drop-drop 1 b reports, e .is)
+    next = rw (from-next lengths b h, at-from reports b, drop-drop 1 b reports, e .is)
 
     pub summed-more : Measuring n lengths reports (sum + r) (b + 1)
     summed-more = record { low = omega arith; few = omega (arith, e .few); rest = omega (arith, next, m .rest) }

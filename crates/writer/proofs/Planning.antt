@@ -3,7 +3,7 @@
 use mathlib.Core.Path.{_≡_}
 use mathlib.Core.Bool.{not}
 use mathlib.Core.List.{List, [], _∷_, _++_}
-use Prim.Native.Nat.{ℕ, _+_, _<_, _≤_}
+use Prim.Native.Nat.{ℕ, _+_, _-_, _^_, _<_, _≤_}
 use native.Mathlib.Omega.{arith}
 use lib.ListN.{length, take, drop, drop-of-length-le}
 use lib.Seq.{drop-drop, getD-drop}
@@ -32,20 +32,28 @@ pub links-end : (batch : List ℕ) (i : ℕ) → length batch ≤ i + 1 → link
 unfolding linkRecords
 links-end batch i h = rw (pairs-end batch i h)
 
+-- what is left from b on begins with entry b
+pub at-from : (l : List ℕ) (b : ℕ) → at (drop b l) 0 ≡ at l b
+at-from l b =
+    let z : b + 0 ≡ b = omega arith in
+    rw (getD-drop b l 0 0, z)
+
+pub total-next : {k : ℕ} (l : List ℕ) (b : ℕ) → b < length l → k ≡ at l b → total (drop b l) ≡ k + total (drop (b + 1) l)
+unfolding total
+total-next l b h e = rw (from-next l b h, e)
+
 -- the batches from b on take the links from `from` on
 abbrev pub planFrom : List ℕ → List ℕ → List ℕ → ℕ → ℕ → List Part
 planFrom links lengths reports from b = planOf (drop from links) (drop b lengths) (drop b reports)
 
--- batch b, which takes the links from `from` on
-abbrev batchAt : List ℕ → List ℕ → List ℕ → ℕ → ℕ → Part
-batchAt links lengths reports from b = record { batch = take (at lengths b) (drop from links); report = not (eqb (at reports b) 0) }
-
 module _ (links lengths reports : List ℕ) (from b : ℕ) where
-  pub plan-next : b < length lengths → planFrom links lengths reports from b ≡ batchAt links lengths reports from b ∷ planFrom links lengths reports (from + at lengths b) (b + 1)
+  -- batch b has the links from `from` to `from + k`
+  pub plan-next : {k : ℕ} → b < length lengths → k ≡ at lengths b
+      → planFrom links lengths reports from b ≡ record { batch = take (from + k - from) (drop from links); report = not (eqb (at reports b) 0) } ∷ planFrom links lengths reports (from + k) (b + 1)
   unfolding planOf
-  plan-next h =
-      let z : b + 0 ≡ b = omega arith in
-      rw (from-next lengths b h, getD-drop b reports 0 0, z, drop-drop (at lengths b) from links, drop-drop 1 b reports)
+  plan-next {k} h e =
+      let z : from + k - from ≡ k = omega arith in
+      rw (z, e, from-next lengths b h, at-from reports b, drop-drop (at lengths b) from links, drop-drop 1 b reports)
 
   pub plan-end : length lengths ≤ b → planFrom links lengths reports from b ≡ []
   unfolding planOf
@@ -58,13 +66,13 @@ pub record Cut (links lengths : List ℕ) (from b : ℕ) : Type 0 where
 pub uncut : (links lengths : List ℕ) → total lengths ≡ length links → Cut links lengths 0 0
 uncut links lengths e = record { sum = omega (arith, e) }
 
-module _ {links lengths : List ℕ} {from b : ℕ} (c : Cut links lengths from b) (h : b < length lengths) where
-  cut-here : total (drop b lengths) ≡ at lengths b + total (drop (b + 1) lengths)
-  unfolding total
-  cut-here = rw (from-next lengths b h)
+-- batch b of k numbers is taken off
+module _ {links lengths : List ℕ} {from b k : ℕ} (c : Cut links lengths from b) (h : b < length lengths) (e : k ≡ at lengths b) where
+  pub cut-inside : from + k ≤ length links
+  cut-inside = omega (arith, c .sum, total-next lengths b h e)
 
-  pub cut-inside : from + at lengths b ≤ length links
-  cut-inside = omega (arith, c .sum, cut-here)
+  pub cut-fits : length links < 2 ^ 64 → from + k < 2 ^ 64
+  cut-fits s = omega (arith, cut-inside)
 
-  pub cut-next : Cut links lengths (from + at lengths b) (b + 1)
-  cut-next = record { sum = omega (arith, c .sum, cut-here) }
+  pub cut-next : Cut links lengths (from + k) (b + 1)
+  cut-next = record { sum = omega (arith, c .sum, total-next lengths b h e) }

@@ -20,7 +20,7 @@ unfolding writeOf
 front-is up links lengths reports out z =
     let file = fileOf up (planOf links lengths reports) in
     let (v, n, l) = answer-sound _ _ _ (writeVerdict up links lengths reports (length out)) refl z in
-    (accepted up links lengths reports (length out) v, rw (n, l) (take-laid file out))
+    (accepted up links lengths reports (length out) v, rw (n, l) (take-laid file _))
 
 pub read-back : ReadBack
 read-back up links lengths reports out z =
@@ -38,4 +38,4 @@ unfolding writeOf
 inside up links lengths reports out e z =
     let file = fileOf up (planOf links lengths reports) in
     let (_, n, l) = answer-sound _ _ _ (writeVerdict up links lengths reports (length out)) e z in
-    rw (n, l) (laid-whole file out)
+    rw (n, l) (laid-whole file _)

@@ -18,6 +18,7 @@ use Rattle.tables.specs.Report.{Bytes, bytesOf, machineBytes, linkBytes}
 use Rattle.tables.specs.Outcome.{addVerdict, addOf, reportVerdict, reportOf}
 use Rattle.tables.proofs.Verdicts.{all-sound}
 use Rattle.tables.proofs.Lengths.{size-exact}
+use Rattle.tables.proofs.Standing.{alone-passed}
 use Rattle.tables.proofs.Calls.{calls-live, limits, lived-more}
 use Rattle.tables.proofs.Histories.{only-links}
 use Rattle.tables.proofs.Demand2.{demand2}
@@ -154,10 +155,10 @@ module _ (file up : List ℕ) where
 -- the whole file, from its first record
 pub file-goes : (up : List ℕ) (plan : List Part) → aloneVerdict up ≡ Sound → batchesVerdict (length up) plan ≡ Sound
     → Goes (fileOf up plan) begin up (acts plan) (reportsOf up [] plan)
-unfolding aloneVerdict fileOf size words bodyLength leaves
+unfolding fileOf size words bodyLength leaves
 file-goes up plan alone good =
     let file : List ℕ = fileOf up plan in
-    let (few, (tree, _)) = all-sound _ alone in
+    let (few, tree) = alone-passed up alone in
     let some : 0 < length up = size-exact (length up) .0 few .0 in
     let l : Lived up [] = record { tree = alone; batches = λ b i. absurd (empty i) } in
     let rest : List ℕ = uplinkRecords up ++ planRecords plan in

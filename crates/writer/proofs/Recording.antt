@@ -3,16 +3,15 @@ use mathlib.Core.Path.{_≡_, ap}
 use mathlib.Core.Bool.{not}
 use mathlib.Core.List.{List, [], _∷_, _++_}
 use Prim.Native.Nat.{ℕ, _+_, _-_, _^_, _<_, _≤_}
-use native.Mathlib.Omega.{arith}
 use lib.ListN.{length, take, drop}
 use lib.Dec.{eqb}
 use borrow.Author.Tests.{eq-eqb, ne-eqb}
 use Rattle.plain.specs.Table.{at}
 use Rattle.tables.specs.Batch.{pairs}
 use Rattle.sitefile.specs.Record.{words, recordOf}
-use Rattle.writer.specs.Plan.{planOf, uplinkRecords, treeRecords, linkRecords, closeRecords, planRecords}
+use Rattle.writer.specs.Plan.{planOf, uplinkRecords, treeRecords, linkRecords, closeRecords, batchRecords, planRecords}
 use Rattle.writer.specs.Filling.{Fills, PlanFits}
-use Rattle.writer.proofs.Planning.{uplinks-next, links-next, planFrom, plan-next, plan-end, Cut, uncut, cut-inside, cut-next}
+use Rattle.writer.proofs.Planning.{uplinks-next, links-next, planFrom, plan-next, plan-end, Cut, uncut, cut-next}
 use Rattle.writer.proofs.Filling.{Writing, begun, free, back, piece-room, piece-fits, piece-next, all-written, last-inside, last-room, last-fits, last-written, first-room, first-written, second-fits}
 
 -- room for the next record
@@ -77,27 +76,19 @@ module _ {links lengths reports before now : List ℕ} {place from b : ℕ} (l :
   batches-done h = all-written (l .left) (ap planRecords (plan-end links lengths reports from b h))
 
   module _ (h : b < length lengths) {k : ℕ} (e : k ≡ at lengths b) where
-    -- its links and its report are there
-    pub batch-end : from + k ≤ length links
-    batch-end = rw e (cut-inside (l .cut) h)
-
-    pub batch-end-fits : length links < 2 ^ 64 → from + k < 2 ^ 64
-    batch-end-fits s = omega (arith, batch-end)
-
+    -- its report is there
     pub batch-report : b < length reports
     batch-report = rw (l .bytes) h
 
     abbrev here : List ℕ
-    here = linkRecords (pairs (take (from + k - from) (drop from links))) ++ closeRecords (not (eqb (at reports b) 0))
+    here = batchRecords (take (from + k - from) (drop from links)) (not (eqb (at reports b) 0))
 
     abbrev behind : List ℕ
     behind = planRecords (planFrom links lengths reports (from + k) (b + 1))
 
     batch-first : planRecords (planFrom links lengths reports from b) ≡ here ++ behind
     unfolding planRecords
-    batch-first =
-        let z : from + k - from ≡ k = omega arith in
-        rw (z, e, plan-next links lengths reports from b h)
+    batch-first = ap planRecords (plan-next links lengths reports from b h e)
 
     pub batch-room : length here ≤ length (free place now)
     batch-room = piece-room (l .left) here behind batch-first
@@ -107,4 +98,4 @@ module _ {links lengths reports before now : List ℕ} {place from b : ℕ} (l :
       batch-fits s = piece-fits (l .left) here behind batch-first f s
 
       pub batch-next : BatchesLeft links lengths reports before (back place now part) (place + m) (from + k) (b + 1)
-      batch-next = record { bytes = l .bytes; cut = rw e (cut-next (l .cut) h); left = piece-next (l .left) here behind batch-first f }
+      batch-next = record { bytes = l .bytes; cut = cut-next (l .cut) h e; left = piece-next (l .left) here behind batch-first f }

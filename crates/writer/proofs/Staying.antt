@@ -18,7 +18,7 @@ rest-stays up links lengths reports out =
     let file = fileOf up (planOf links lengths reports) in
     let v = writeVerdict up links lengths reports (length out) in
     record {
-      refused = λ o. answer-refused out (length file) (laid file out) v o refl .1;
+      refused = λ o. answer-refused _ _ _ v o refl .1;
       past = λ z. let (_, n, l) = answer-sound out (length file) (laid file out) v refl z in rw (n, l) (drop-at file (drop (length file) out) (length file) refl);
       size = laid-size v (accepted up links lengths reports (length out));
     }

@@ -37,13 +37,13 @@ linkRecords (p ∷ l) = recordOf 3 (p .0 ∷ p .1 ∷ []) ++ linkRecords l
 abbrev pub closeRecords : Bool → List ℕ
 closeRecords report = recordOf 4 [] ++ cond report (recordOf 5 []) []
 
-abbrev pub batchRecords : Part → List ℕ
-batchRecords b = linkRecords (pairs (b .batch)) ++ closeRecords (b .report)
+abbrev pub batchRecords : List ℕ → Bool → List ℕ
+batchRecords batch report = linkRecords (pairs batch) ++ closeRecords report
 
 -- batch after batch
 unfoldable pub planRecords : List Part → List ℕ
 planRecords [] = []
-planRecords (b ∷ plan) = batchRecords b ++ planRecords plan
+planRecords (b ∷ plan) = batchRecords (b .batch) (b .report) ++ planRecords plan
 
 -- the file: the tree, then the batches
 unfoldable pub fileOf : List ℕ → List Part → List ℕ

@@ -50,13 +50,13 @@ abbrev pub RestStays : Type 0
 RestStays = (up links lengths reports out : List ℕ) → Stays out (writeOf up links lengths reports out)
 
 -- the numbers of all batches, one batch behind the other
-unfoldable pub joined : List (List ℕ) → List ℕ
-joined [] = []
-joined (batch ∷ h) = batch ++ joined h
+unfoldable pub numbersOf : List (List ℕ) → List ℕ
+numbersOf [] = []
+numbersOf (batch ∷ h) = batch ++ numbersOf h
 
 -- what a plan was cut from
 pub record CutFrom (links lengths reports : List ℕ) (plan : List Part) : Type 0 where
-  pub numbers : joined (batchesOf plan) ≡ links
+  pub numbers : numbersOf (batchesOf plan) ≡ links
   pub lengths-are : map length (batchesOf plan) ≡ lengths
   pub asked : map (λ p. p .report) plan ≡ map (λ b. not (eqb b 0)) reports
 

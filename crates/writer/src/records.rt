@@ -2,14 +2,14 @@
 // rest. Every function answers how many bytes it wrote.
 ghost use mathlib.Core.Path.{_≡_};
 ghost use mathlib.Core.Bool.{not};
-ghost use mathlib.Core.List.{[], _∷_, _++_};
+ghost use mathlib.Core.List.{[], _∷_};
 ghost use Prim.Native.Nat.{_%_, _/_, _<_, _≤_};
 ghost use lib.ListN.{length};
 ghost use lib.Dec.{eqb};
 ghost use Rattle.tables.specs.Tree.{mostMachines};
 ghost use Rattle.tables.specs.Batch.{pairs};
 ghost use Rattle.sitefile.specs.Record.{recordOf};
-ghost use Rattle.writer.specs.Plan.{uplinkRecords, treeRecords, linkRecords, closeRecords, planOf, planRecords, fileOf};
+ghost use Rattle.writer.specs.Plan.{uplinkRecords, treeRecords, linkRecords, closeRecords, batchRecords, planOf, planRecords, fileOf};
 ghost use Rattle.writer.specs.Filling.{Fills, PlanFits, FileFits};
 
 // The low byte of a number.
@@ -112,8 +112,8 @@ fn close(out: &mut [u8], report: u8) -> usize
 
 // A batch: its links, then its close.
 fn batch(out: &mut [u8], batch: &[u16], report: u8) -> usize
-    requires { ⌜ length (linkRecords (pairs (now batch)) ++ closeRecords (not (eqb report 0))) ≤ length (now out) ⌝ }
-    ensures { λ r. ⌜ Fills (linkRecords (pairs (now (batch .entry))) ++ closeRecords (not (eqb report 0))) (now (out .entry)) (now (out .exit)) r ⌝ }
+    requires { ⌜ length (batchRecords (now batch) (not (eqb report 0))) ≤ length (now out) ⌝ }
+    ensures { λ r. ⌜ Fills (batchRecords (now (batch .entry)) (not (eqb report 0))) (now (out .entry)) (now (out .exit)) r ⌝ }
 {
     let k = links(out, batch);
     k + close(&mut out[k..], report)

@@ -1,7 +1,8 @@
 -- `plan::batches` meets its contract. The loop's invariant: every batch before b passed, so the verdict is that of the batches from b on.
 use Prim.Native.Nat.{_-_}
 use lib.ListN.{length}
-use Rattle.writer.proofs.BatchByBatch.{Passed, passed-none, passed-more, passed-all, refused, batch-inside, batch-fits}
+use Rattle.writer.proofs.Planning.{cut-inside, cut-fits}
+use Rattle.writer.proofs.BatchByBatch.{Passed, passed-none, passed-more, passed-all, refused}
 use borrow.Author.Needs.{needs}
 use Rattle.writer.proofs.plan.batches.Statement.{statement}
 use Rattle.writer.proofs.plan.batches.Tie as tie
@@ -20,11 +21,11 @@ batches-spec =
     μ-loop
     (λ c. search passed-none)
     (λ c κs. search needs)
-    (λ c. search batch-fits)
+    (λ c. search cut-fits)
     (λ c. search needs)
     (λ c. search needs)
     (λ c. search needs)
-    (λ c. search batch-inside)
+    (λ c. search cut-inside)
     (λ c κs. search needs)
     (λ c. search needs)
     (λ c. search needs)

@@ -1,7 +1,8 @@
 -- `records::batches` meets its contract. The loop's invariant: the batches from b on are still to be written.
 use Prim.Native.Nat.{_-_}
 use lib.ListN.{length}
-use Rattle.writer.proofs.Recording.{BatchesLeft, batches-begun, batches-inside, batch-end, batch-end-fits, batch-report, batch-room, batch-fits, batch-next, batches-done}
+use Rattle.writer.proofs.Planning.{cut-inside, cut-fits}
+use Rattle.writer.proofs.Recording.{BatchesLeft, batches-begun, batches-inside, batch-report, batch-room, batch-fits, batch-next, batches-done}
 use borrow.Author.Needs.{needs}
 use Rattle.writer.proofs.records.batches.Statement.{statement}
 use Rattle.writer.proofs.records.batches.Tie as tie
@@ -20,14 +21,14 @@ batches-spec =
     μ-loop
     (λ c. search batches-begun)
     (λ c κs. search needs)
-    (λ c. search batch-end-fits)
+    (λ c. search cut-fits)
     (λ c. search batches-inside)
     (λ c. search batches-inside)
     (λ c. search needs)
     (λ c. search needs)
     (λ c. search needs)
     (λ c. search needs)
-    (λ c. search batch-end)
+    (λ c. search cut-inside)
     (λ c. search batch-report)
     (λ c κs. search batch-room)
     (λ c. search batch-fits)
