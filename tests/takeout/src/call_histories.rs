@@ -98,7 +98,7 @@ impl History {
 }
 
 /// A few links, and once in three times something that may get the batch refused.
-fn batch(up: &[usize], draw: Draw, chance: &mut Chance) -> Vec<usize> {
+pub fn batch(up: &[usize], draw: Draw, chance: &mut Chance) -> Vec<usize> {
     let n = up.len();
     let most = chance.pick(&[1, 3, 2 + n / 4]);
     let count = chance.below(most + 1);

@@ -4,41 +4,72 @@ use std::collections::VecDeque;
 use std::thread::{self, JoinHandle};
 
 use crate::class::{grouped, Class, Codes};
-use crate::run::agreed;
+use crate::run::{agreed, Law, ANY_LINE};
 use crate::text::{Case, Letter};
 use crate::verdict::Failure;
-use crate::{call_histories, call_plans, call_tables, call_trees};
+use crate::{call_histories, call_plans, call_tables, call_trees, call_work, work};
 
 /// Takes each case that a generator makes.
 pub type Take<'a> = &'a mut dyn FnMut(Case);
 
 /// Makes cases and hands each on.
-pub type Cases = fn(Take);
+type Make = fn(Take);
 
-pub const ALL: [Class<Cases>; 6] = [
+/// Cases, and the law of the lines that are printed for them.
+#[derive(Clone, Copy)]
+pub struct Cases {
+    make: Make,
+    law: Law,
+}
+
+/// Cases whose lines have to be as expected, and no more.
+const fn compared(make: Make) -> Cases {
+    Cases {
+        make,
+        law: ANY_LINE,
+    }
+}
+
+/// Cases whose lines also have to show as much work as their trees allow.
+const fn with_work(make: Make) -> Cases {
+    Cases {
+        make,
+        law: work::law,
+    }
+}
+
+pub const ALL: [Class<Cases>; 8] = [
     Class {
         things: "trees and lengths",
-        each: call_trees::all,
+        each: compared(call_trees::all),
     },
     Class {
         things: "small tables",
-        each: call_tables::small,
+        each: compared(call_tables::small),
     },
     Class {
         things: "histories by chance",
-        each: call_histories::all,
+        each: compared(call_histories::all),
+    },
+    Class {
+        things: "work histories",
+        each: with_work(call_work::all),
     },
     Class {
         things: "plans to write",
-        each: call_plans::all,
+        each: compared(call_plans::all),
     },
     Class {
         things: "large sites",
-        each: call_histories::large,
+        each: compared(call_histories::large),
+    },
+    Class {
+        things: "heavy histories",
+        each: with_work(call_work::large),
     },
     Class {
         things: "tables of four machines",
-        each: call_tables::of_four,
+        each: compared(call_tables::of_four),
     },
 ];
 
@@ -54,7 +85,7 @@ const LISTED_A_RUN: usize = 2_000_000;
 /// How many runs of the program go on at a time.
 const RUNS_AT_A_TIME: usize = 2;
 
-/// Runs the cases of the classes through a program and ends at the first line that differs.
+/// Runs the cases of the classes through a program and ends at the first line that breaks its law or differs.
 pub fn calls(classes: &[Class<Cases>], cmd: &str, args: &[&str]) {
     let mut agreed = String::new();
     for &class in classes {
@@ -65,6 +96,7 @@ pub fn calls(classes: &[Class<Cases>], cmd: &str, args: &[&str]) {
                 .map(|word| word.to_string())
                 .collect(),
             things: class.things,
+            law: class.each.law,
             next: Vec::new(),
             machines: 0,
             listed: 0,
@@ -72,7 +104,7 @@ pub fn calls(classes: &[Class<Cases>], cmd: &str, args: &[&str]) {
             cases: 0,
             codes: Codes::default(),
         };
-        (class.each)(&mut |case| program.take(case));
+        (class.each.make)(&mut |case| program.take(case));
         program.run();
         program.wait(0);
         agreed += &format!(
@@ -89,6 +121,7 @@ pub fn calls(classes: &[Class<Cases>], cmd: &str, args: &[&str]) {
 struct Program {
     words: Vec<String>,
     things: &'static str,
+    law: Law,
     /// The cases of the next run, how many machines they have, and how many numbers the lists of their plans.
     next: Vec<Case>,
     machines: usize,
@@ -114,11 +147,11 @@ impl Program {
 
     fn run(&mut self) {
         self.wait(RUNS_AT_A_TIME - 1);
-        let (words, things, before) = (self.words.clone(), self.things, self.cases);
+        let (words, law, things, before) = (self.words.clone(), self.law, self.things, self.cases);
         let cases = std::mem::take(&mut self.next);
         (self.machines, self.listed) = (0, 0);
         self.cases += cases.len();
-        let run = thread::spawn(move || Ok(agreed(&words, &cases, things, before)?.codes));
+        let run = thread::spawn(move || Ok(agreed(&words, &cases, law, things, before)?.codes));
         self.runs.push_back(run);
     }
 

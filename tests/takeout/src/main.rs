@@ -3,8 +3,9 @@
 //! It shares no code with what it tests. It reads a site file by its own reader and finds the chokes by taking out each
 //! machine and each cable and searching what is left: another method, too. The three calls it has by a plain reading of
 //! document 01's marks, groups and rules, and it holds that reading to what taking out finds, and to the tables that it
-//! reaches by adding every link in turn. The writer of site files it has by document 02's words, and what is written is sent
-//! through both programs: what comes out has to be what taking out finds in the plans.
+//! reaches by adding every link in turn. How much work a site causes it adds up from the lines that were printed. The writer
+//! of site files it has by document 02's words, and what is written is sent through both programs: what comes out has to be
+//! what taking out finds in the plans.
 
 mod answer;
 mod call_histories;
@@ -13,6 +14,7 @@ mod call_plans;
 mod call_random_plans;
 mod call_tables;
 mod call_trees;
+mod call_work;
 mod calls;
 mod chance;
 mod class;
@@ -39,6 +41,7 @@ mod stand_in_writers;
 mod stream;
 mod text;
 mod verdict;
+mod work;
 mod writing;
 mod written;
 
@@ -48,7 +51,7 @@ use verdict::Failure;
 
 const USAGE: &str = "\
 usage: takeout compare [--classes small,random,damaged,large] CMD [ARG..]   CMD answers a stream of site files
-       takeout calls [--classes trees,small,histories,plans,large,tables] CMD [ARG..]   CMD answers the text of trial
+       takeout calls [--classes trees,small,histories,work,plans,large,heavy,tables] CMD [ARG..]   CMD answers the text of trial
        takeout written CMD [ARG..] -- CMD [ARG..]   the first answers the text of trial, the second a stream of site files
        takeout expect < SITE-FILE     what is to be printed for it
        takeout expect-stream < STREAM the same for each file of a stream

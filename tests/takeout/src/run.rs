@@ -16,10 +16,18 @@ pub struct Agreed {
     pub codes: Codes,
 }
 
-/// One run of the program of these words: a line for each case. Before these come so many others of the same things.
+/// What has to hold of the line that a program prints for a case, whatever takeout's own reading has there; else what breaks it.
+pub type Law = fn(&Case, &str) -> Result<(), String>;
+
+/// The law that no line breaks.
+pub const ANY_LINE: Law = |_, _| Ok(());
+
+/// One run of the program of these words: a line for each case. The lines are held to the law first and then to what is
+/// expected. Before these cases come so many others of the same things.
 pub fn agreed(
     words: &[String],
     cases: &[Case],
+    law: Law,
     things: &str,
     before: usize,
 ) -> Result<Agreed, Failure> {
@@ -35,11 +43,13 @@ pub fn agreed(
     let length = lines.iter().map(String::len).sum();
     let out = output(words, text, length)
         .map_err(|error| Failure::Unable(format!("{}: {error}", words[0])))?;
+    let place = |index: usize| format!("case {} of the {things}", grouped(before + index + 1));
+    held(law, cases, &out, place)?;
     let mut rest = &out[..];
-    for (place, (case, line)) in cases.iter().zip(&lines).enumerate() {
+    for (index, (case, line)) in cases.iter().zip(&lines).enumerate() {
         let end = rest.iter().position(|&byte| byte == b'\n');
         let (came, after) = rest.split_at(end.map_or(rest.len(), |end| end + 1));
-        let place = format!("case {} of the {things}", grouped(before + place + 1));
+        let place = place(index);
         match judge(line.as_bytes(), came) {
             Verdict::Agrees => rest = after,
             Verdict::BreaksOff => {
@@ -59,6 +69,26 @@ pub fn agreed(
         return Err(Failure::Disagreement(what));
     }
     Ok(Agreed { out, codes })
+}
+
+/// Holds each line that came to the law. The last may have broken off, and then it shows nothing.
+fn held(
+    law: Law,
+    cases: &[Case],
+    out: &[u8],
+    place: impl Fn(usize) -> String,
+) -> Result<(), Failure> {
+    let lines = out.split_inclusive(|&byte| byte == b'\n');
+    let whole = lines.filter_map(|line| line.strip_suffix(b"\n"));
+    for (index, (case, came)) in cases.iter().zip(whole).enumerate() {
+        let came = String::from_utf8_lossy(came);
+        if let Err(broken) = law(case, &came) {
+            let (place, text) = (place(index), case.text());
+            let what = format!("{place}: {broken}\n{text}\ncame:\n{came}");
+            return Err(Failure::Disagreement(what));
+        }
+    }
+    Ok(())
 }
 
 /// How much is taken beyond the length expected, to show, from a program that prints too much.

@@ -9,8 +9,8 @@ pub type Shape = fn(usize, usize, &mut Chance) -> usize;
 pub const RANDOM: Shape = |v, _, chance| chance.below(v);
 /// Each machine below one of the latest three: deep, with short branches.
 const DEEP: Shape = |v, _, chance| v - chance.between(1, v.min(3));
-const PATH: Shape = |v, _, _| v - 1;
-const STAR: Shape = |_, _, _| 0;
+pub const PATH: Shape = |v, _, _| v - 1;
+pub const STAR: Shape = |_, _, _| 0;
 /// A path with legs.
 const CATERPILLAR: Shape = |v, n, chance| match n.div_ceil(2) {
     half if v < half => v - 1,

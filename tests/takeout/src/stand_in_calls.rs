@@ -3,7 +3,7 @@
 use std::io::{self, BufWriter, Read, Write};
 
 use crate::file::{refuse, Refusal};
-use crate::lent::{line, Lent};
+use crate::lent::{line, Answer, Lent};
 use crate::reading::{Document01, Reading};
 use crate::rules::{Rule, RULES};
 use crate::text::{self, Part};
@@ -43,20 +43,26 @@ pub fn serve(reading: &dyn Reading) -> io::Result<()> {
 
 type Make = fn() -> Box<dyn Reading>;
 
-const OTHERS: [(&str, Make); 13] = [
+const OTHERS: [(&str, Make); 19] = [
     ("nine-before-eight", || Box::new(NineBeforeEight)),
     ("odd-length-taken", || Box::new(OddLengthTaken)),
     ("last-slice-named", || Box::new(LastSliceNamed)),
     ("hub-depth-one", || Box::new(HubDepthOne)),
     ("rise-one-too-much", || Box::new(RiseOneTooMuch)),
+    ("links-counted", || Box::new(LinksCounted)),
+    ("marks-totalled", || Box::new(MarksTotalled)),
+    ("last-rise-missed", || Box::new(LastRiseMissed)),
     ("greatest-name", || Box::new(GreatestName)),
     ("good-links-first", || Box::new(GoodLinksFirst)),
     ("carried-at-w", || Box::new(CarriedAtW)),
+    ("carried-below-w", || Box::new(CarriedBelowW)),
+    ("ringed-for-good", || Box::new(RingedForGood)),
     ("stops-at-ringed", || Box::new(StopsAtRinged)),
     ("stops-after-sixteen", || Box::new(StopsAfterSixteen)),
     ("meets-too-high", || Box::new(MeetsTooHigh)),
     ("members-left-behind", || Box::new(MembersLeftBehind)),
     ("groups-forgotten", || Box::new(GroupsForgotten)),
+    ("ringed-is-enough", || Box::new(RingedIsEnough)),
 ];
 
 /// One rule behind code 6 is not looked at.
@@ -121,6 +127,35 @@ impl Reading for RiseOneTooMuch {
     }
 }
 
+/// Add answers how many links it took.
+struct LinksCounted;
+
+impl Reading for LinksCounted {
+    fn add(&self, lent: &mut Lent, batch: &[usize]) -> Answer {
+        Document01.add(lent, batch)?;
+        Ok(batch.len() / 2)
+    }
+}
+
+/// Add answers the marks added up, whatever they were before.
+struct MarksTotalled;
+
+impl Reading for MarksTotalled {
+    fn rise(&self, _: &[usize], after: &[usize]) -> usize {
+        after.iter().sum()
+    }
+}
+
+/// The last machine's rise is not counted.
+struct LastRiseMissed;
+
+impl Reading for LastRiseMissed {
+    fn rise(&self, before: &[usize], after: &[usize]) -> usize {
+        let last = after.len() - 1;
+        Document01.rise(&before[..last], &after[..last])
+    }
+}
+
 /// A group is named by its greatest machine.
 struct GreatestName;
 
@@ -159,6 +194,27 @@ impl Reading for CarriedAtW {
         if lent.up[w] != w {
             lent.mark[w] = 2;
         }
+    }
+}
+
+/// A child of the ring's meeting machine gets no lower mark than the others.
+struct CarriedBelowW;
+
+impl Reading for CarriedBelowW {
+    fn raise(&self, lent: &mut Lent, arm: &[usize], _: usize) {
+        for &x in arm {
+            lent.mark[x] = 2;
+        }
+    }
+}
+
+/// A mark of 1 rises no more.
+struct RingedForGood;
+
+impl Reading for RingedForGood {
+    fn raise(&self, lent: &mut Lent, arm: &[usize], w: usize) {
+        let bare = arm.iter().copied().filter(|&x| lent.mark[x] == 0);
+        Document01.raise(lent, &bare.collect::<Vec<_>>(), w);
     }
 }
 
@@ -217,5 +273,21 @@ impl Reading for GroupsForgotten {
         Document01.check_batch(lent, batch)?;
         lent.group = (0..lent.up.len()).collect();
         Ok(())
+    }
+}
+
+/// A machine is no choke once every machine below it is ringed, carried past it or not.
+struct RingedIsEnough;
+
+impl Reading for RingedIsEnough {
+    fn report(&self, lent: &mut Lent) -> Answer {
+        Document01.report(lent)?;
+        for w in 0..lent.up.len() {
+            let ringed = |&v: &usize| lent.mark[v] >= 1;
+            if lent.machines[w] == 1 && lent.children(w).iter().all(ringed) {
+                lent.machines[w] = 0;
+            }
+        }
+        Ok(lent.machines.iter().filter(|&&byte| byte != 0).count())
     }
 }

@@ -10,7 +10,7 @@ use crate::cross_links::MIXED;
 use crate::draft::Visit;
 use crate::file::{self, BATCH_LIMIT, FILE_LIMIT, MACHINE_LIMIT};
 use crate::plan::Planned;
-use crate::run::agreed;
+use crate::run::{agreed, ANY_LINE};
 use crate::search::chokes;
 use crate::shapes::{tree, RANDOM, SHUFFLED};
 use crate::stream::Stream;
@@ -95,7 +95,7 @@ fn files(plans: &[Planned], (cmd, args): Words) -> Result<Vec<Vec<u8>>, Failure>
         .iter()
         .map(|word| word.to_string())
         .collect();
-    let out = agreed(&words, &cases, "plans to write", 0)?.out;
+    let out = agreed(&words, &cases, ANY_LINE, "plans to write", 0)?.out;
     let lines = String::from_utf8_lossy(&out);
     let files: Option<_> = lines.lines().map(front).collect();
     Ok(files.expect("the lines are as they were expected"))
