@@ -6,7 +6,7 @@ use mathlib.Core.Logic.{_≢_, _⊎_, ⊎-elim}
 use Prim.Native.Nat.{ℕ, zero, suc, _+_, _<_, _≤_}
 use native.Mathlib.Omega.{arith}
 use lib.Dec.{eqb}
-use borrow.Author.Tests.{eqb-true}
+use borrow.Author.Tests.{eqb-true, eq-eqb, ne-eqb}
 use Rattle.plain.specs.Search.{some, count}
 use Rattle.plain.proofs.Says.{by-cases, says-true, says-or}
 
@@ -32,14 +32,18 @@ count-none zero p f = refl
 count-none (suc n) p f = rw (f zero (omega arith)) (omega (arith, count-none n (λ k. p (suc k)) (λ k h. f (suc k) (omega arith))))
 
 -- just one number passes
-pub count-one : (n : ℕ) (p : ℕ → Bool) (h : ℕ) → h < n → p h ≡ true → ((k : ℕ) → k < n → k ≢ h → p k ≡ false) → count n p ≡ 1
+count-one : (n : ℕ) (p : ℕ → Bool) (h : ℕ) → h < n → p h ≡ true → ((k : ℕ) → k < n → k ≢ h → p k ≡ false) → count n p ≡ 1
 unfolding count
 count-one zero p h l e f = absurd (omega arith)
 count-one (suc n) p zero l e f = rw e (omega (arith, count-none n (λ k. p (suc k)) (λ k i. f (suc k) (omega arith) (omega arith))))
 count-one (suc n) p (suc h) l e f = rw (f zero (omega arith) (omega arith))
     (omega (arith, count-one n (λ k. p (suc k)) h (omega arith) e (λ k i o. f (suc k) (omega arith) (omega arith))))
 
-most-one : (n : ℕ) (p : ℕ → Bool) → ((i j : ℕ) → p i ≡ true → p j ≡ true → i ≡ j) → count n p ≤ 1
+pub count-self : (n h : ℕ) → h < n → count n (λ k. eqb k h) ≡ 1
+count-self n h l = count-one n (λ k. eqb k h) h l (eq-eqb h h refl) (λ k _. ne-eqb k h)
+
+-- one number or none passes
+pub most-one : (n : ℕ) (p : ℕ → Bool) → ((i j : ℕ) → p i ≡ true → p j ≡ true → i ≡ j) → count n p ≤ 1
 unfolding count
 most-one zero p f = omega arith
 most-one (suc n) p f = by-cases (p zero)

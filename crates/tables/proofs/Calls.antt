@@ -1,5 +1,5 @@
 -- The calls over the tables of links that stand: no rule is broken and every length is right, so only the batch can be refused.
-use mathlib.Core.Path.{_≡_, refl, sym, ap, _∙_}
+use mathlib.Core.Path.{_≡_, sym, ap, _∙_}
 use mathlib.Core.Bool.{_&&_}
 use mathlib.Core.List.{List, [], _∷_, _++_, append-nil, append-assoc}
 use mathlib.Core.Logic.{⊎-elim}
@@ -9,7 +9,6 @@ use lib.ListN.{length}
 use lib.Dec.{leb, ltb, eqb}
 use Rattle.plain.specs.Table.{total}
 use Rattle.graph.specs.Cable.{Cables}
-use Rattle.graph.proofs.Members.{here, there, cases, empty, single, parts}
 use Rattle.plain.proofs.Says.{says-le, says-eq, says-and}
 use Rattle.plain.proofs.Tabulate.{length-tabulate}
 use Rattle.tables.specs.Verdict.{Fault, Sound, checks}
@@ -18,7 +17,7 @@ use Rattle.tables.specs.Tree.{mostMachines, depthOf, sizeVerdict, aloneV
 use Rattle.tables.specs.Tables.{Tables, fresh, lengthsVerdict}
 use Rattle.tables.specs.Batch.{mostLinks, pairs, numbersVerdict, batchVerdict, after, rise}
 use Rattle.tables.specs.Links.{AllGood, Stands, tablesWith}
-use Rattle.tables.specs.History.{History, Accepted, Lived, links, leaves, tables}
+use Rattle.tables.specs.History.{History, Lived, links, leaves, tables}
 use Rattle.tables.specs.Rules.{rulesVerdict, tablesVerdict}
 use Rattle.tables.specs.Outcome.{outcome, judged, startVerdict, startOf, addVerdict, addOf}
 use Rattle.tables.specs.Demand1.{SoundTree}
@@ -28,7 +27,8 @@ use Rattle.tables.proofs.Verdicts.{checks-one, unless-sound, unless-ref
 use Rattle.tables.proofs.Lengths.{size-exact, sizes-exact}
 use Rattle.tables.proofs.Sound.{sound-tree}
 use Rattle.tables.proofs.Links.{after-append, network, told}
-use Rattle.tables.proofs.Histories.{only-links}
+use Rattle.tables.proofs.Histories.{links-more, lived-none, lived-more, only-links}
+use Rattle.tables.proofs.Runs.{kept-first, refused-first}
 use Rattle.tables.proofs.Rise.{rise-is}
 use Rattle.tables.proofs.Kept.{told-kept, kept-sound}
 
@@ -64,71 +64,34 @@ adds up l st batch =
       rises = omega arith;
     })
 
-pub links-append : (g h : History) → links (g ++ h) ≡ links g ++ links h
-unfolding links
-links-append [] h = refl
-links-append (b ∷ g) h = ap (λ l. pairs b ++ l) (links-append g h) ∙ sym (append-assoc (pairs b) (links g) (links h))
-
-links-more : (h : History) (batch : List ℕ) → links (h ++ (batch ∷ [])) ≡ links h ++ pairs batch
-unfolding links
-links-more h batch = links-append h (batch ∷ []) ∙ ap (λ l. links h ++ l) (append-nil (pairs batch))
-
-started : (up : List ℕ) (t : Tables) → Lived up [] → lengthsVerdict up t ≡ Sound → startOf up t ≡ outcome (done (length up)) (tables up [])
+started : (up : List ℕ) (t : Tables) → aloneVerdict up ≡ Sound → lengthsVerdict up t ≡ Sound → startOf up t ≡ outcome (done (length up)) (tables up [])
 unfolding startVerdict startOf checks judged leaves
-started up t l e = rw (e, alone-passed up (l .tree) .1)
+started up t e z = rw (z, alone-passed up e .1)
 
-pub adds-more : (up : List ℕ) (h : History) → Lived up h → (batch : List ℕ) → Adds up batch (tables up h) (tables up (h ++ (batch ∷ [])))
+adds-more : (up : List ℕ) (h : History) → Lived up h → (batch : List ℕ) → Adds up batch (tables up h) (tables up (h ++ (batch ∷ [])))
 adds-more up h l batch =
     rw (only-links .leave up h, only-links .leave up (h ++ (batch ∷ [])), links-more h batch) (adds up (links h) (only-links .stand up h l) batch)
-
--- an accepted batch more
-pub lived-more : {up : List ℕ} {h : History} (batch : List ℕ) → Lived up h → batchVerdict (length up) batch ≡ Sound → Lived up (h ++ (batch ∷ []))
-lived-more {h = h} batch l e = record { tree = l .tree; batches = λ b i. ⊎-elim (l .batches b) (λ j. let q : b ≡ batch = single j in rw q e) (parts h i) }
 
 -- a run leaves the tables of the history with its accepted batches behind: a refused one leaves what it found
 pub run-leaves : (up : List ℕ) (run g : History) → Lived up g → added up run (tables up g) ≡ tables up (g ++ acceptedOf (length up) run)
 unfolding added acceptedOf
 run-leaves up [] g l = ap (tables up) (sym (append-nil g))
-run-leaves up (batch ∷ run) g l = ⊎-elim
-    (λ e. rw e (ap (λ r. added up run (r .lent)) (adds-more up g l batch .accepted e) ∙ run-leaves up run (g ++ (batch ∷ [])) (lived-more batch l e)
-    ∙ ap (tables up) (append-assoc g (batch ∷ []) (acceptedOf (length up) run))))
-    (λ (why, place, e). rw e (ap (λ r. added up run (r .lent)) (adds-more up g l batch .refused why place e) ∙ run-leaves up run g l))
-    (verdict-view (batchVerdict (length up) batch))
-
-pub accepted-append : (n : ℕ) (run more : History) → acceptedOf n (run ++ more) ≡ acceptedOf n run ++ acceptedOf n more
-unfolding acceptedOf
-accepted-append n [] more = refl
-accepted-append n (batch ∷ run) more = ⊎-elim
-    (λ e. rw e (ap (λ h. batch ∷ h) (accepted-append n run more)))
-    (λ (why, place, e). rw e (accepted-append n run more))
+run-leaves up (batch ∷ run) g l =
+    let n = length up in
+    let a = adds-more up g l batch in
+    ⊎-elim
+    (λ e. ap (λ r. added up run (r .lent)) (a .accepted e) ∙ run-leaves up run (g ++ (batch ∷ [])) (lived-more batch l e)
+    ∙ ap (tables up) (append-assoc g (batch ∷ []) (acceptedOf n run) ∙ ap (λ h. g ++ h) (sym (kept-first n batch run e))))
+    (λ (why, place, e). ap (λ r. added up run (r .lent)) (a .refused why place e) ∙ run-leaves up run g l
+    ∙ ap (λ h. tables up (g ++ h)) (sym (refused-first n batch run e)))
     (verdict-view (batchVerdict n batch))
-
-pub accepted-of : (n : ℕ) (run : History) → Accepted n (acceptedOf n run)
-unfolding acceptedOf
-accepted-of n [] = λ b i. absurd (empty i)
-accepted-of n (batch ∷ run) = ⊎-elim
-    (λ e. rw e (λ b i. ⊎-elim (λ (q : b ≡ batch). rw q e) (accepted-of n run b) (cases i)))
-    (λ (why, place, e). rw e (accepted-of n run))
-    (verdict-view (batchVerdict n batch))
-
--- the accepted batches of a run more
-pub lived-run : {up : List ℕ} {g : History} (run : History) → Lived up g → Lived up (g ++ acceptedOf (length up) run)
-lived-run {up} {g} run l = record { tree = l .tree; batches = λ b i. ⊎-elim (l .batches b) (accepted-of (length up) run b) (parts g i) }
-
-pub all-accepted : (n : ℕ) (h : History) → Accepted n h → acceptedOf n h ≡ h
-unfolding acceptedOf
-all-accepted n [] a = refl
-all-accepted n (batch ∷ h) a = rw (a batch (here refl)) (ap (λ k. batch ∷ k) (all-accepted n h (λ b i. a b (there i))))
-
-pub not-lived : {up : List ℕ} → aloneVerdict up ≡ Sound → Lived up []
-not-lived e = record { tree = e; batches = λ b i. absurd (empty i) }
 
 pub calls-live : CallsLive
 calls-live = record {
   start = started;
   after-batches = adds-more;
   with-links = adds;
-  all-calls = λ up run t e z. ap (λ r. added up run (r .lent)) (started up t (not-lived e) z) ∙ run-leaves up run [] (not-lived e);
+  all-calls = λ up run t e z. ap (λ r. added up run (r .lent)) (started up t e z) ∙ run-leaves up run [] (lived-none e);
 }
 
 pub limits : Limits

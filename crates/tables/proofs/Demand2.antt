@@ -28,11 +28,12 @@ use Rattle.tables.proofs.Codes.{numbered}
 use Rattle.tables.proofs.Lengths.{sized-is}
 use Rattle.tables.proofs.Sound.{sound-tree, rooted}
 use Rattle.tables.proofs.Links.{network, told}
-use Rattle.tables.proofs.Histories.{only-links}
+use Rattle.tables.proofs.Histories.{lived-none, only-links}
+use Rattle.tables.proofs.Runs.{lived-run}
 use Rattle.tables.proofs.Reports.{machine-bytes, hub-byte, link-bytes, link-small, never-three}
 use Rattle.tables.proofs.Cabling.{linked-cabled, machine-cabled, uplink-cabled}
 use Rattle.tables.proofs.Counting.{named-list}
-use Rattle.tables.proofs.Calls.{rules-met, lengths-met, lived-run, not-lived, calls-live}
+use Rattle.tables.proofs.Calls.{rules-met, lengths-met, calls-live}
 use Rattle.tables.proofs.Demand1.{rules-links, site-of, report-came}
 
 module _ {up : List ℕ} {l : Cables} (st : Stands up l) where
@@ -104,7 +105,7 @@ unfolding machineBytes tablesVerdict
 demand2 = record {
   after-calls = λ up run t e z.
       let h = acceptedOf (length up) run in
-      subst (ChokesNamed up (links h)) (sym (calls-live .all-calls up run t e z)) (after-batches up h (lived-run run (not-lived e)));
+      subst (ChokesNamed up (links h)) (sym (calls-live .all-calls up run t e z)) (after-batches up h (lived-run run (lived-none e)));
   with-links = λ up l. chokes-named;
   code-zero = code-zero;
   never-three = λ up t d g m v w h.

@@ -12,6 +12,7 @@ pub mod Naming
 pub mod Standing
 pub mod Links
 pub mod Histories
+pub mod Runs
 pub mod Reading
 pub mod Kept
 pub mod Wanted
@@ -25,11 +26,11 @@ pub mod Laws
 pub mod Calls
 pub mod Fullest
 pub mod Work
-pub mod Labels
+pub mod Falling
 pub mod Demand1
 pub mod Demand2
 pub mod Demand3
-pub mod Moving
+pub mod Labels
 pub mod Codes
 pub mod Order
 pub mod Worked

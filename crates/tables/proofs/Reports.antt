@@ -41,14 +41,14 @@ module _ {up : List ℕ} {L : Relation} {t : Tables} (N : Network (treeOf up) L)
   kin : {w c d : ℕ} → Uplink (treeOf up) c w → d < length up → at (t .group) c ≡ at (t .group) d → SameGroup (treeOf up) L w c d
   kin {c = c} {d} r h e = rw (r .to) at (group-law N (k .named) c d (r .low) h .0 e)
 
-  -- m is of the group of g and carried, by the tables
+  -- m is a carried member of group g
   abbrev CarriedIn : ℕ → ℕ → Type 0
   CarriedIn g m = (at (t .group) m ≡ g) × (at (t .mark) m ≡ 2)
 
   says-carried : (g : ℕ) → Says (some (length up) (carriedMember (t .group) (t .mark) g)) ((m : ℕ) × (m < length up) × CarriedIn g m)
   says-carried g = says-some (length up) (λ m _. says-and (says-eq (at (t .group) m) g) (says-eq (at (t .mark) m) 2))
 
-  -- and by the links
+  -- what the links carry in the group of c, the tables have as carried in it
   carried-in : {w c : ℕ} → Uplink (treeOf up) c w → (m : ℕ) → SameGroup (treeOf up) L w c m → Carries (treeOf up) L m → (d : ℕ) × (d < length up) × CarriedIn (at (t .group) c) d
   carried-in r m g p = let l = member r g .low in (m, l, (sym (group-name (k .named) g), k .marked .carried m l .1 p))
 

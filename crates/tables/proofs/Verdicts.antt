@@ -17,6 +17,10 @@ use Rattle.tables.specs.Verdict.{Fault, numberOf, Verdict, Sound, Refuse
 pub not-both : {A : Type 0} {why : Fault} {p : ℕ} {r : Verdict} → r ≡ Refused why p → r ≡ Sound → A
 not-both e f = let z : _≡_ {A = ℕ} 0 1 = cc in absurd (omega arith)
 
+pub verdict-view : (v : Verdict) → (v ≡ Sound) ⊎ ((why : Fault) × (place : ℕ) × (v ≡ Refused why place))
+verdict-view Sound = inl refl
+verdict-view (Refused why place) = inr (why, place, refl)
+
 -- P holds of each of the verdicts
 abbrev pub All : (Verdict → Type 0) → List Verdict → Type 0
 All P [] = Unit
@@ -109,10 +113,6 @@ unfolding refuseLeast
 refuse-view why n p = by-cases (ltb (least n p) n) (λ t. inr (least n p, rw t refl)) (λ t. inl (rw t refl))
 
 -- what a refusal by the least machine tells
-pub verdict-view : (v : Verdict) → (v ≡ Sound) ⊎ ((why : Fault) × (place : ℕ) × (v ≡ Refused why place))
-verdict-view Sound = inl refl
-verdict-view (Refused why place) = inr (why, place, refl)
-
 pub record RefusedAt (n : ℕ) (p : ℕ → Bool) (v : ℕ) : Type 0 where
   pub machine : v < n
   pub fails : p v ≡ true

@@ -20,6 +20,10 @@ pairs [] = []
 pairs (a ∷ []) = []
 pairs (a ∷ b ∷ l) = (a, b) ∷ pairs l
 
+-- a link as a batch of its own
+abbrev pub alone : ℕ × ℕ → List ℕ
+alone p = p .0 ∷ (p .1 ∷ [])
+
 -- code 7: a batch of so many numbers, an odd number or over 2,048
 unfoldable pub numbersVerdict : ℕ → Verdict
 numbersVerdict k = unless (eqb (k % 2) 0 && leb k (2 * mostLinks)) Fault.Length k

@@ -1,4 +1,4 @@
--- The calls go from history to history, the limits, and the codes.
+-- The calls go from history to history, runs of calls, the limits, and the codes.
 use mathlib.Core.Path.{_≡_}
 use mathlib.Core.List.{List, [], _∷_, _++_, map}
 use mathlib.Core.Logic.{_≢_, _↔_}
@@ -12,7 +12,7 @@ use Rattle.tables.specs.Tree.{sizeVerdict, aloneVerdict}
 use Rattle.tables.specs.Tables.{Tables, lengthsVerdict}
 use Rattle.tables.specs.Batch.{pairs, numbersVerdict, batchVerdict}
 use Rattle.tables.specs.Links.{Stands, tablesWith}
-use Rattle.tables.specs.History.{History, Lived, tables}
+use Rattle.tables.specs.History.{History, Accepted, Lived, tables}
 use Rattle.tables.specs.Outcome.{outcome, startOf, addOf}
 
 -- over t Add is refused only where the batch is, and leaves t; else it is done, leaves t′, and its value is what the marks, added up, rose by
@@ -24,26 +24,32 @@ pub record Adds (up batch : List ℕ) (t t′ : Tables) : Type 0 where
 -- one Add after another, each over what the one before it left
 unfoldable pub added : List ℕ → History → Tables → Tables
 added up [] t = t
-added up (batch ∷ h) t = added up h (addOf up batch t .lent)
+added up (batch ∷ run) t = added up run (addOf up batch t .lent)
 
 -- a batch in front of the others, where it is accepted
-abbrev keptBy : Verdict → List ℕ → History → History
+abbrev pub keptBy : Verdict → List ℕ → History → History
 keptBy Sound batch h = batch ∷ h
 keptBy (Refused why place) batch h = h
 
--- the batches of a run that are accepted on n machines, in their order
+-- the history of a run: its batches that are accepted on n machines, in their order
 unfoldable pub acceptedOf : ℕ → History → History
 acceptedOf n [] = []
 acceptedOf n (batch ∷ run) = keptBy (batchVerdict n batch) batch (acceptedOf n run)
 
+-- that is: accepted batches are all kept, and a refused one makes no difference
+pub record HistoryOfRun : Type 0 where
+  pub all-kept : (n : ℕ) (h : History) → Accepted n h → acceptedOf n h ≡ h
+  pub left-out : (n : ℕ) (g h : History) (batch : List ℕ) (why : Fault) (place : ℕ) → batchVerdict n batch ≡ Refused why place
+      → acceptedOf n (g ++ (batch ∷ h)) ≡ acceptedOf n (g ++ h)
+
 -- what Start, and then an Add for each batch, leave of lent tables
 abbrev pub ran : List ℕ → History → Tables → Tables
-ran up h t = added up h (startOf up t .lent)
+ran up run t = added up run (startOf up t .lent)
 
 -- from nothing to the empty history, from a history to the longer one, and from links to these with those of the batch; so the calls of a
 -- run, one after another, leave the tables of its accepted batches
 pub record CallsLive : Type 0 where
-  pub start : (up : List ℕ) (t : Tables) → Lived up [] → lengthsVerdict up t ≡ Sound → startOf up t ≡ outcome (done (length up)) (tables up [])
+  pub start : (up : List ℕ) (t : Tables) → aloneVerdict up ≡ Sound → lengthsVerdict up t ≡ Sound → startOf up t ≡ outcome (done (length up)) (tables up [])
   pub after-batches : (up : List ℕ) (h : History) → Lived up h → (batch : List ℕ) → Adds up batch (tables up h) (tables up (h ++ (batch ∷ [])))
   pub with-links : (up : List ℕ) (l : Cables) → Stands up l → (batch : List ℕ) → Adds up batch (tablesWith up l) (tablesWith up (l ++ pairs batch))
   pub all-calls : (up : List ℕ) (run : History) (t : Tables) → aloneVerdict up ≡ Sound → lengthsVerdict up t ≡ Sound → ran up run t ≡ tables up (acceptedOf (length up) run)

@@ -1,4 +1,4 @@
--- Histories of accepted batches, and the tables that they leave.
+-- Histories, batches one after another, and the tables that accepted ones leave.
 use mathlib.Core.Path.{_≡_}
 use mathlib.Core.List.{List, [], _∷_, _++_}
 use Prim.Native.Nat.{ℕ}

@@ -13,6 +13,7 @@ use Rattle.tables.specs.Verdict.{Sound}
 use Rattle.tables.specs.Answer.{Answer}
 use Rattle.tables.specs.Tree.{hub, aloneVerdict}
 use Rattle.tables.specs.Tables.{Tables, lengthsVerdict}
+use Rattle.tables.specs.Batch.{alone}
 use Rattle.tables.specs.History.{History, Accepted}
 use Rattle.tables.specs.Report.{child}
 use Rattle.tables.specs.Outcome.{startOf, addOf}
@@ -32,7 +33,7 @@ sumOf up (batch ∷ run) t = let r = addOf up batch t in worth (r .answer) + sum
 abbrev pub work : List ℕ → History → Tables → ℕ
 work up run t = sumOf up run (startOf up t .lent)
 
--- 2(n − 1) less the number of the hub's children
+-- 2(n − 1) less the number of the hub's children, which are at most n − 1: the hub is none of them
 unfoldable pub mostWork : List ℕ → ℕ
 mostWork up = 2 * (length up - 1) - count (length up) (child (hub up) up (hub up))
 
@@ -42,7 +43,7 @@ hops up = map (λ p. (p .0, at up (p .1))) (uplinks up (length up))
 
 -- each of them a batch of its own
 unfoldable pub fullest : List ℕ → History
-fullest up = map (λ p. p .0 ∷ (p .1 ∷ [])) (hops up)
+fullest up = map alone (hops up)
 
 -- from what Start leaves of t, over any run of batches, refused ones among them
 pub record WorkOf (up : List ℕ) (t : Tables) : Type 0 where

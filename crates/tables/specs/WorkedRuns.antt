@@ -5,6 +5,7 @@ use Prim.Native.Nat.{ℕ}
 use lib.ListN.{length}
 use Rattle.tables.specs.History.{History}
 use Rattle.tables.specs.Outcome.{startOf}
+use Rattle.tables.specs.Calls.{acceptedOf}
 use Rattle.tables.specs.Work.{work, mostWork, fullest}
 use Rattle.tables.specs.Labels.{movesOf}
 use Rattle.tables.specs.Worked.{nines, nineBytes, list}
@@ -33,8 +34,9 @@ runs =
     ∷ record { up = list "1,1,1,0"; run = list "3,1" ∷ list "2,1" ∷ list "0,1" ∷ []; sum = 4; most = 4; moves = 4 }
     ∷ []
 
--- every run comes to what was worked out, and the last two are the fullest of their trees
+-- every run comes to what was worked out; the last two are the fullest of their trees; and of P8 in parts two batches are accepted
 pub record RunsWorked : Type 0 where
   pub said : map saidOf runs ≡ runs
   pub fullest-six : fullest (list "0,0,1,2,3,0") ≡ list "5,0" ∷ list "4,2" ∷ list "3,1" ∷ list "2,0" ∷ list "1,0" ∷ []
+  pub accepted : acceptedOf 6 (list "1,5" ∷ list "1,5 7,7" ∷ list "1,3 2" ∷ list "1,3 2,4" ∷ []) ≡ list "1,5" ∷ list "1,3 2,4" ∷ []
   pub fullest-four : fullest (list "1,1,1,0") ≡ list "3,1" ∷ list "2,1" ∷ list "0,1" ∷ []

@@ -8,7 +8,6 @@ use native.Mathlib.Omega.{arith}
 use lib.ListN.{length, drop, length-append}
 use borrow.Author.Tests.{lt-ltb, le-ltb, eq-eqb}
 use Rattle.plain.proofs.Tabulate.{length-tabulate}
-use Rattle.graph.proofs.Members.{empty}
 use Rattle.tables.specs.declared.Verdict.the-variants.{Sound}
 use Rattle.tables.specs.Tree.{aloneVerdict, treeVerdict}
 use Rattle.tables.specs.Tables.{Tables, fresh}
@@ -19,7 +18,8 @@ use Rattle.tables.specs.Outcome.{addVerdict, addOf, reportVerdict, reportOf}
 use Rattle.tables.proofs.Verdicts.{all-sound}
 use Rattle.tables.proofs.Lengths.{size-exact}
 use Rattle.tables.proofs.Standing.{alone-passed}
-use Rattle.tables.proofs.Calls.{calls-live, limits, lived-more}
+use Rattle.tables.proofs.Histories.{lived-more, lived-none}
+use Rattle.tables.proofs.Calls.{calls-live, limits}
 use Rattle.tables.proofs.Histories.{only-links}
 use Rattle.tables.proofs.Demand2.{demand2}
 use Rattle.site.proofs.Callers.{answer-sound}
@@ -160,9 +160,8 @@ file-goes up plan alone good =
     let file : List ℕ = fileOf up plan in
     let (few, tree) = alone-passed up alone in
     let some : 0 < length up = size-exact (length up) .0 few .0 in
-    let l : Lived up [] = record { tree = alone; batches = λ b i. absurd (empty i) } in
     let rest : List ℕ = uplinkRecords up ++ planRecords plan in
     let here : drop 0 file ≡ recordOf 1 (length up ∷ []) ++ rest = append-assoc (recordOf 1 (length up ∷ [])) (uplinkRecords up) (planRecords plan) in
     let s : step file begin ≡ reads (growing up [] (behind 0 1)) = size-read file begin (length up) rest here refl ∙ rw few in
     reading s refl
-    (uplinks-go file up tree (planRecords plan) (λ place there. batches-go file up some plan [] place l good there) up [] (behind 0 1) refl some (behind-is file begin 1 (length up ∷ []) rest refl here))
+    (uplinks-go file up tree (planRecords plan) (λ place there. batches-go file up some plan [] place (lived-none alone) good there) up [] (behind 0 1) refl some (behind-is file begin 1 (length up ∷ []) rest refl here))
