@@ -43,7 +43,7 @@ pub record LabelsOf (up : List ℕ) (t : Tables) (o : Bytes) : Type 0 where
   -- a label moves at most once, and to 0: in every later report it is as it was, or 0
   pub at-most-once : (run more : History) → (let was = labels up o (ran up run t) in let now = labels up o (ran up (run ++ more) t) in
       Falls (was .machines) (now .machines) × Falls (was .links) (now .links))
-  -- all labels together move no more often than the total by which marks rise, and once more: the hub's label may move, and the hub's mark never rises
+  -- all labels together move at most once more than the total by which marks rise: the hub's label may move, and the hub's mark never rises
   pub in-all : (run : History) → movesOf up o run (startOf up t .lent) ≤ suc (work up run t)
 
 -- for every tree that is not refused, and any tables and outputs of the right lengths

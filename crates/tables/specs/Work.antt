@@ -20,7 +20,7 @@ use Rattle.tables.specs.Outcome.{startOf, addOf}
 use Rattle.tables.specs.Cables.{uplinks}
 use Rattle.tables.specs.Calls.{acceptedOf, ran}
 
--- what an answer counts for: its value where the code is 0. A refusal's value is a place, and counts for nothing
+-- what an answer counts for: its value where the code is 0. A refusal's value is a place or a length, and counts for nothing
 abbrev pub worth : Answer → ℕ
 worth a = cond (eqb (a .code) 0) (a .value) 0
 

@@ -18,9 +18,8 @@ use Rattle.tables.specs.Outcome.{addVerdict, addOf, reportVerdict, reportOf}
 use Rattle.tables.proofs.Verdicts.{all-sound}
 use Rattle.tables.proofs.Lengths.{size-exact}
 use Rattle.tables.proofs.Standing.{alone-passed}
-use Rattle.tables.proofs.Histories.{lived-more, lived-none}
 use Rattle.tables.proofs.Calls.{calls-live, limits}
-use Rattle.tables.proofs.Histories.{only-links}
+use Rattle.tables.proofs.Histories.{lived-none, lived-more, only-links}
 use Rattle.tables.proofs.Demand2.{demand2}
 use Rattle.site.proofs.Callers.{answer-sound}
 use Rattle.sitefile.specs.Record.{bodyLength, words, recordOf}

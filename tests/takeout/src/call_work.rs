@@ -1,5 +1,5 @@
-//! Histories that cause as much work as their trees allow: batch after batch, with refused ones among them, until every mark
-//! is as high as it goes. The law that their lines keep is in `work`.
+//! Histories that cause as much work as their trees allow: batch after batch, with refused ones among them where there are
+//! links at all, until every mark is as high as it goes. The law that their lines keep is in `work`.
 
 use crate::call_histories::batch;
 use crate::calls::Take;
@@ -9,6 +9,7 @@ use crate::file::{Link, BATCH_LIMIT, MACHINE_LIMIT};
 use crate::lent::Lent;
 use crate::reached::Reached;
 use crate::reading::Document01;
+use crate::search::chokes;
 use crate::shapes::{self, tree, PATH, RANDOM, SHUFFLED, STAR};
 use crate::sites::trees;
 use crate::text::{Case, Letter};
@@ -41,7 +42,7 @@ fn worked(take: Take) {
 /// On every tree of up to 4 machines: link by link to each table that a history leaves, and on from there. The marks of these
 /// tables are counted as well.
 fn from_every_table(take: Take) {
-    let (mut tables, mut once_more) = (0, 0);
+    let (mut tables, mut one_more) = (0, 0);
     for reached in (1..=4).flat_map(trees).map(|up| Reached::on(&up)) {
         let up = &reached.fresh.up;
         let sums = reached.tables.keys().map(|(_, marks)| marks.iter().sum());
@@ -50,14 +51,19 @@ fn from_every_table(take: Take) {
             let batches = links.iter().map(|&link| numbers(&[link])).collect();
             let case = to_the_most(up, batches, BATCH_LIMIT);
             let Work { rises, moves } = after(&case, links.len());
+            assert_eq!(
+                moves,
+                taken_out_moves(up, links),
+                "labels: {up:?} {links:?}"
+            );
             tables += 1;
-            once_more += usize::from(moves == rises + 1);
+            one_more += usize::from(moves == rises + 1);
             take(case);
         }
     }
     println!(
         "takeout: {tables} tables that histories leave: the marks add up to the most of each tree and never to more; \
-         labels moved once more than marks rose, for {once_more} of them, and never twice more"
+         for {one_more} of them one label more moved than they add up to, and never two"
     );
 }
 
@@ -89,8 +95,8 @@ pub fn large(take: Take) {
     let mut chance = Chance::seeded(20);
     let [path, star, random] =
         [PATH, STAR, RANDOM].map(|shape| tree(shape, SHUFFLED, MACHINE_LIMIT, &mut chance));
-    assert_eq!([most(&path), most(&star)], [8_190 - 1, 8_190 - 4_095]);
-    for up in [path, star, random] {
+    for (up, sum) in [(path, 8_189), (star, 4_095), (random, 8_183)] {
+        assert_eq!(most(&up), sum, "a tree of as many machines as a site has");
         take(to_the_most(&up, Vec::new(), BATCH_LIMIT));
     }
 }
@@ -136,8 +142,17 @@ fn joining(up: &[usize]) -> Vec<Link> {
 /// The work after so many batches, by takeout's own reading.
 fn after(case: &Case, batches: usize) -> Work {
     let (line, _) = case.printed(&Document01);
-    let works = works(&case.lent.up, &line);
-    works
-        .expect("takeout's own reading keeps the law")
-        .swap_remove(batches)
+    let works = works(&case.lent.up, &line).expect("takeout's own reading keeps the law");
+    let mut after = works.into_iter().skip(batches);
+    after.next().expect("there are so many batches")
+}
+
+/// How many labels are others with these links than with none, by taking out.
+fn taken_out_moves(up: &[usize], links: &[Link]) -> usize {
+    let labels = |links| {
+        let (machines, uplinks) = chokes(up, links).bytes();
+        [machines, uplinks].concat()
+    };
+    let both = labels(&[]).into_iter().zip(labels(links));
+    both.filter(|(was, is)| was != is).count()
 }

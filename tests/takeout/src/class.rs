@@ -7,7 +7,7 @@ use std::collections::BTreeMap;
 pub struct Class<Each> {
     /// What they are called. The class is picked by the first word.
     pub things: &'static str,
-    /// Makes the same things in the same order each time.
+    /// What makes them, the same in the same order each time, and for calls the law of their lines.
     pub each: Each,
 }
 
