@@ -6,7 +6,7 @@ use mathlib.Core.Logic.{_≢_, _⊎_, ⊎-elim}
 use Prim.Native.Nat.{ℕ, zero, suc, _+_, _<_, _≤_}
 use native.Mathlib.Omega.{arith}
 use lib.Dec.{eqb}
-use borrow.Author.Tests.{eqb-true, eq-eqb, ne-eqb}
+use borrow.Author.Tests.{eqb-true, eq-eqb}
 use Rattle.plain.specs.Search.{some, count}
 use Rattle.plain.proofs.Says.{by-cases, says-true, says-or}
 
@@ -31,19 +31,8 @@ unfolding count
 count-none zero p f = refl
 count-none (suc n) p f = rw (f zero (omega arith)) (omega (arith, count-none n (λ k. p (suc k)) (λ k h. f (suc k) (omega arith))))
 
--- just one number passes
-count-one : (n : ℕ) (p : ℕ → Bool) (h : ℕ) → h < n → p h ≡ true → ((k : ℕ) → k < n → k ≢ h → p k ≡ false) → count n p ≡ 1
-unfolding count
-count-one zero p h l e f = absurd (omega arith)
-count-one (suc n) p zero l e f = rw e (omega (arith, count-none n (λ k. p (suc k)) (λ k i. f (suc k) (omega arith) (omega arith))))
-count-one (suc n) p (suc h) l e f = rw (f zero (omega arith) (omega arith))
-    (omega (arith, count-one n (λ k. p (suc k)) h (omega arith) e (λ k i o. f (suc k) (omega arith) (omega arith))))
-
-pub count-self : (n h : ℕ) → h < n → count n (λ k. eqb k h) ≡ 1
-count-self n h l = count-one n (λ k. eqb k h) h l (eq-eqb h h refl) (λ k _. ne-eqb k h)
-
 -- one number or none passes
-pub most-one : (n : ℕ) (p : ℕ → Bool) → ((i j : ℕ) → p i ≡ true → p j ≡ true → i ≡ j) → count n p ≤ 1
+most-one : (n : ℕ) (p : ℕ → Bool) → ((i j : ℕ) → p i ≡ true → p j ≡ true → i ≡ j) → count n p ≤ 1
 unfolding count
 most-one zero p f = omega arith
 most-one (suc n) p f = by-cases (p zero)
@@ -51,6 +40,19 @@ most-one (suc n) p f = by-cases (p zero)
     let none = count-none n (λ k. p (suc k)) (λ k _. by-cases (p (suc k)) (λ i. absurd (omega (arith, f zero (suc k) e i))) (λ i. i)) in
     rw e (omega (arith, none)))
     (λ e. rw e (omega (arith, most-one n (λ k. p (suc k)) (λ i j a b. omega (arith, f (suc i) (suc j) a b)))))
+
+count-has : (n : ℕ) (p : ℕ → Bool) (h : ℕ) → h < n → p h ≡ true → 1 ≤ count n p
+unfolding count
+count-has zero p h l e = absurd (omega arith)
+count-has (suc n) p zero l e = rw e (omega arith)
+count-has (suc n) p (suc h) l e = omega (arith, count-has n (λ k. p (suc k)) h (omega arith) e)
+
+-- at most one number is h, and just one where h is below n
+pub self-most : (n h : ℕ) → count n (λ k. eqb k h) ≤ 1
+self-most n h = most-one n (λ k. eqb k h) (λ i j a b. eqb-true i h a ∙ sym (eqb-true j h b))
+
+pub self-one : (n h : ℕ) → h < n → count n (λ k. eqb k h) ≡ 1
+self-one n h l = omega (arith, self-most n h, count-has n (λ k. eqb k h) h l (eq-eqb h h refl))
 
 pub count-cover : (n : ℕ) (p q r : ℕ → Bool) → ((k : ℕ) → k < n → p k ≡ true → (q k ≡ true) ⊎ (r k ≡ true)) → count n p ≤ count n q + count n r
 unfolding count

@@ -12,7 +12,7 @@ use lib.Dec.{eqb, leb}
 use borrow.Author.Tests.{eqb-true, eq-eqb, ne-eqb, leb-true, leb-false}
 use Rattle.plain.specs.Search.{some, count}
 use Rattle.plain.specs.Table.{at, tabulate, total}
-use Rattle.plain.proofs.Count.{most-one, count-cover, count-or, count-sum, count-image}
+use Rattle.plain.proofs.Count.{self-most, count-cover, count-or, count-sum, count-image}
 use Rattle.plain.proofs.Says.{by-cases, Says, says-true, says-eq, says-le, says-not, says-and, says-or, says-some}
 use Rattle.plain.proofs.Tabulate.{length-tabulate, at-tabulate}
 use Rattle.graph.specs.Walk.{Relation}
@@ -111,8 +111,7 @@ module _ {up : List ℕ} {L M : Relation} {t u : Tables} (N : Network (treeOf up
       let (m, q, e) = carried-child O m? j h other (λ c. machine-bytes O m? j w h .1 c z) r in
       inr (says-or (says-eq w (hub up)) (above w) .takes (inr (m, q .low, (e, q .to)))))
       inl)) in
-      let hub-one = most-one n (λ w. eqb w (hub up)) (λ i j a b. eqb-true i (hub up) a ∙ sym (eqb-true j (hub up) b)) in
-      omega (arith, cover, count-or n (λ w. eqb w (hub up)) carried, hub-one, count-image n n (at up) (λ m. eqb (at (u .mark) m) 2))
+      omega (arith, cover, count-or n (λ w. eqb w (hub up)) carried, self-most n (hub up), count-image n n (at up) (λ m. eqb (at (u .mark) m) 2))
 
   -- an uplink whose label went out has a mark
   links-paid : named (linkBytes up t) ≤ named (linkBytes up u) + count (length up) (λ v. leb 1 (at (u .mark) v))

@@ -13,7 +13,7 @@ use borrow.Author.Tests.{eq-eqb, ne-eqb}
 use Rattle.plain.specs.Member.{_∈_}
 use Rattle.plain.specs.Search.{count}
 use Rattle.plain.specs.Table.{at, tabulate, total}
-use Rattle.plain.proofs.Count.{count-self}
+use Rattle.plain.proofs.Count.{self-one}
 use Rattle.plain.proofs.Tabulate.{length-tabulate, at-tabulate, tabulated}
 use Rattle.plain.proofs.Total.{total-le}
 use Rattle.graph.specs.Walk.{stay, step}
@@ -65,7 +65,7 @@ all-shares (suc n) f p q e = omega (arith, e zero, all-shares n (λ k. f (suc k)
 module _ {up : List ℕ} (s : SoundTree up) where
   most-total : total (tabulate (length up) (mostMark up)) ≡ mostWork up
   unfolding mostWork
-  most-total = omega (arith, all-shares (length up) (mostMark up) (child (hub up) up (hub up)) (λ v. eqb v (hub up)) (shares up), count-self (length up) (hub up) (s .hub-in))
+  most-total = omega (arith, all-shares (length up) (mostMark up) (child (hub up) up (hub up)) (λ v. eqb v (hub up)) (shares up), self-one (length up) (hub up) (s .hub-in))
 
   module _ {l : Cables} (g : AllGood (length up) l) where
     kept : (v : ℕ) → v < length up → Kept up (tablesWith up l) v
