@@ -13,7 +13,7 @@ use borrow.Author.Tests.{eqb-true, eq-eqb, ne-eqb, leb-true, leb-false}
 use Rattle.plain.specs.Search.{some, count}
 use Rattle.plain.specs.Table.{at, tabulate, total}
 use Rattle.plain.proofs.Count.{self-most, count-cover, count-or, count-sum, count-image}
-use Rattle.plain.proofs.Says.{by-cases, Says, says-true, says-eq, says-le, says-not, says-and, says-or, says-some}
+use Rattle.plain.proofs.Says.{by-cases, Says, says-eq, says-le, says-not, says-and, says-or, says-some}
 use Rattle.plain.proofs.Tabulate.{length-tabulate, at-tabulate}
 use Rattle.graph.specs.Walk.{Relation}
 use Rattle.rings.specs.Network.{Network}
@@ -65,7 +65,14 @@ named-cover n f g r e = rw (length-tabulate n f, length-tabulate n g) (count-cov
 
 module _ {up : List ℕ} {L M : Relation} {t u : Tables} (N : Network (treeOf up) L) (l? : Decided L) (k : Told up L t)
     (O : Network (treeOf up) M) (m? : Decided M) (j : Told up M u) (f : (a b : ℕ) → L a b → M a b) where
-  machine-falls : (w : ℕ) → w < length up → (machineByte (hub up) up (u .group) (u .mark) w ≡ machineByte (hub up) up (t .group) (t .mark) w) ⊎ (machineByte (hub up) up (u .group) (u .mark) w ≡ 0)
+  -- the machine byte of w by the first tables, and by those with more links
+  abbrev was : ℕ → ℕ
+  was w = machineByte (hub up) up (t .group) (t .mark) w
+
+  abbrev now : ℕ → ℕ
+  now w = machineByte (hub up) up (u .group) (u .mark) w
+
+  machine-falls : (w : ℕ) → w < length up → (now w ≡ was w) ⊎ (now w ≡ 0)
   machine-falls w h = go (byte-is N l? k w h) (byte-is O m? j w h)
     where
       go : {x y : ℕ} → Byte N l? k w x → Byte O m? j w y → (y ≡ x) ⊎ (y ≡ 0)
@@ -88,30 +95,34 @@ module _ {up : List ℕ} {L M : Relation} {t u : Tables} (N : Network (treeOf up
 
   pub machines-fall : Falls (machineBytes up t) (machineBytes up u)
   unfolding machineBytes
-  machines-fall = falls (length up) (machineByte (hub up) up (t .group) (t .mark)) (machineByte (hub up) up (u .group) (u .mark)) machine-falls
+  machines-fall = falls (length up) was now machine-falls
 
   pub links-fall : Falls (linkBytes up t) (linkBytes up u)
   unfolding linkBytes
   links-fall = falls (length up) (linkByte (hub up) (t .mark)) (linkByte (hub up) (u .mark)) link-falls
 
-  -- a machine whose label went out is the hub, or has a carried child
+  -- w is the hub, or has a carried child
+  abbrev pays : ℕ → Bool
+  pays w = eqb w (hub up) || some (length up) (λ m. eqb (at (u .mark) m) 2 && eqb (at up m) w)
+
+  says-pays : (w : ℕ) → Says (pays w) ((w ≡ hub up) ⊎ ((m : ℕ) × (m < length up) × ((at (u .mark) m ≡ 2) × (at up m ≡ w))))
+  says-pays w = says-or (says-eq w (hub up)) (says-some (length up) (λ m _. says-and (says-eq (at (u .mark) m) 2) (says-eq (at up m) w)))
+
+  -- a machine whose label went out pays
+  machine-paid : (w : ℕ) → w < length up → was w ≢ 0 → (now w ≢ 0) ⊎ (pays w ≡ true)
+  machine-paid w h o = dite (ℕ-discrete w (hub up)) (λ e. inr (says-pays w .takes (inl e))) λ other. dite (ℕ-discrete (now w) 0)
+      (λ z.
+      let (c, r) = choke-child N l? k w h other (machine-bytes N l? k w h .0 o) in
+      let (m, q, e) = carried-child O m? j h other (λ c. machine-bytes O m? j w h .1 c z) r in
+      inr (says-pays w .takes (inr (m, q .low, (e, q .to)))))
+      inl
+
   machines-paid : named (machineBytes up t) ≤ named (machineBytes up u) + suc (count (length up) (λ m. eqb (at (u .mark) m) 2))
   unfolding machineBytes
   machines-paid =
       let n = length up in
-      let carried : ℕ → Bool = λ w. some n (λ m. eqb (at (u .mark) m) 2 && eqb (at up m) w) in
-      let above : (w : ℕ) → Says (carried w) ((m : ℕ) × (m < n) × ((at (u .mark) m ≡ 2) × (at up m ≡ w))) =
-      λ w. says-some n (λ m _. says-and (says-eq (at (u .mark) m) 2) (says-eq (at up m) w)) in
-      let cover = named-cover n (machineByte (hub up) up (t .group) (t .mark)) (machineByte (hub up) up (u .group) (u .mark))
-      (λ w. eqb w (hub up) || carried w) (λ w h o.
-      dite (ℕ-discrete w (hub up)) (λ e. inr (says-or (says-eq w (hub up)) (says-true (carried w)) .takes (inl e))) (λ other.
-      dite (ℕ-discrete (machineByte (hub up) up (u .group) (u .mark) w) 0)
-      (λ z.
-      let (c, r) = choke-child N l? k w h other (machine-bytes N l? k w h .0 o) in
-      let (m, q, e) = carried-child O m? j h other (λ c. machine-bytes O m? j w h .1 c z) r in
-      inr (says-or (says-eq w (hub up)) (above w) .takes (inr (m, q .low, (e, q .to)))))
-      inl)) in
-      omega (arith, cover, count-or n (λ w. eqb w (hub up)) carried, self-most n (hub up), count-image n n (at up) (λ m. eqb (at (u .mark) m) 2))
+      let each = count-or n (λ w. eqb w (hub up)) (λ w. some n (λ m. eqb (at (u .mark) m) 2 && eqb (at up m) w)) in
+      omega (arith, named-cover n was now pays machine-paid, each, self-most n (hub up), count-image n n (at up) (λ m. eqb (at (u .mark) m) 2))
 
   -- an uplink whose label went out has a mark
   links-paid : named (linkBytes up t) ≤ named (linkBytes up u) + count (length up) (λ v. leb 1 (at (u .mark) v))
