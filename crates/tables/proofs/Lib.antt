@@ -34,4 +34,3 @@ pub mod Labels
 pub mod Codes
 pub mod Order
 pub mod Worked
-pub mod WorkedRuns

@@ -50,7 +50,7 @@ fn from_every_table(take: Take) {
         for links in reached.tables.values() {
             let batches = links.iter().map(|&link| numbers(&[link])).collect();
             let case = to_the_most(up, batches, BATCH_LIMIT);
-            let Work { rises, moves } = after(&case, links.len());
+            let Work { rises, moves, .. } = after(&case, links.len());
             assert_eq!(
                 moves,
                 taken_out_moves(up, links),
@@ -95,9 +95,18 @@ pub fn large(take: Take) {
     let mut chance = Chance::seeded(20);
     let [path, star, random] =
         [PATH, STAR, RANDOM].map(|shape| tree(shape, SHUFFLED, MACHINE_LIMIT, &mut chance));
-    for (up, sum) in [(path, 8_189), (star, 4_095), (random, 8_183)] {
-        assert_eq!(most(&up), sum, "a tree of as many machines as a site has");
-        take(to_the_most(&up, Vec::new(), BATCH_LIMIT));
+    let expected = [(8_189, 8_189), (4_095, 4_096), (8_183, 6_153)];
+    for (up, (sum, labels)) in [path, star, random].iter().zip(expected) {
+        let case = to_the_most(up, Vec::new(), BATCH_LIMIT);
+        let batches = case.letters.len() / 3 - 1;
+        let Work {
+            rises,
+            moves,
+            refusals,
+        } = after(&case, batches);
+        assert_eq!((rises, moves), (sum, labels), "as many machines as may be");
+        assert!(refusals > 0, "a refused batch has a value");
+        take(case);
     }
 }
 

@@ -9,6 +9,8 @@ pub struct Work {
     pub rises: usize,
     /// How many labels changed from a report to the next.
     pub moves: usize,
+    /// The values of Add's refusals, added up: what would be too much.
+    pub refusals: usize,
 }
 
 /// The most that the marks of a tree add up to: 2 for each machine but the hub, less 1 for each of the hub's children.
@@ -45,6 +47,7 @@ pub fn works(up: &[usize], line: &str) -> Result<Vec<Work>, String> {
         let work = Work {
             rises: now.rises,
             moves,
+            refusals: now.refusals,
         };
         bounded(&work, now.marks.iter().sum(), most(up))?;
         works.push(work);
@@ -52,7 +55,7 @@ pub fn works(up: &[usize], line: &str) -> Result<Vec<Work>, String> {
     Ok(works)
 }
 
-fn bounded(&Work { rises, moves }: &Work, marks: usize, most: usize) -> Result<(), String> {
+fn bounded(&Work { rises, moves, .. }: &Work, marks: usize, most: usize) -> Result<(), String> {
     let comes = format!("what Add answered comes to {rises}");
     if rises != marks {
         return Err(format!("{comes}, and the marks to {marks}"));
@@ -81,6 +84,8 @@ fn moved(before: &Shown, now: &Shown) -> Result<usize, String> {
 struct Shown {
     /// The values of Add's answers with code 0 up to there, added up.
     rises: usize,
+    /// Those of its refusals.
+    refusals: usize,
     marks: Vec<usize>,
     machines: Vec<usize>,
     links: Vec<usize>,
@@ -102,8 +107,10 @@ fn shown(line: &str) -> Option<Vec<Shown>> {
         match word {
             "start" | "add" | "report" => {
                 let (code, value) = (number(said)?, number(words.next()?)?);
-                if (word, code) == ("add", 0) {
-                    now.rises += value;
+                match (word, code) {
+                    ("add", 0) => now.rises += value,
+                    ("add", _) => now.refusals += value,
+                    _ => {}
                 }
             }
             "depths" | "groups" => {}
