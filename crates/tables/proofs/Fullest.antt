@@ -16,18 +16,20 @@ use Rattle.plain.specs.Table.{at, tabulate, total}
 use Rattle.plain.proofs.Count.{self-one}
 use Rattle.plain.proofs.Tabulate.{length-tabulate, at-tabulate, tabulated}
 use Rattle.plain.proofs.Total.{total-le}
-use Rattle.graph.specs.Walk.{stay, step}
+use Rattle.graph.specs.Walk.{stay}
 use Rattle.graph.specs.Cable.{Cables, Linked}
-use Rattle.rings.specs.Tree.{Uplink}
+use Rattle.graph.proofs.Walks.{join}
+use Rattle.rings.specs.Tree.{Uplink, Under}
 use Rattle.rings.specs.Ring.{Rings, Carries}
 use Rattle.rings.proofs.Under.{uplinked, no-return}
-use Rattle.tables.specs.Tree.{hub, depthOf}
+use Rattle.tables.specs.Tree.{hub}
 use Rattle.tables.specs.AsTree.{treeOf}
 use Rattle.tables.specs.Links.{Good, AllGood, tablesWith}
 use Rattle.tables.specs.Report.{child}
 use Rattle.tables.specs.Demand1.{SoundTree}
 use Rattle.tables.specs.Work.{mostWork, hops}
 use Rattle.tables.proofs.Sound.{rooted}
+use Rattle.tables.proofs.Lines.{up-over}
 use Rattle.tables.proofs.Links.{network, told}
 use Rattle.tables.proofs.Kept.{Kept, told-kept}
 use Rattle.tables.proofs.Cabling.{uplink-on}
@@ -89,30 +91,19 @@ module _ {up : List ℕ} (s : SoundTree up) where
   unfolding hops
   hop-in v h o = Memᴰ·map _ (uplink-on up v (at up v) .1 (uplinked h o))
 
+  -- the up of its up is not under v
+  hop-out : (v : ℕ) → v < length up → v ≢ hub up → ¬ Under (treeOf up) v (at up (at up v))
+  hop-out v h o u = no-return (rooted s) (uplinked h o) (join (up-over s (at up v) (s .inside v h)) u)
+
   hop-good : (x y : ℕ) → Uplink (treeOf up) x y → Good (length up) (x, at up y)
-  hop-good x y r = record {
-    one = r .low;
-    two = s .inside y (rooted s .low r);
-    apart = dite (ℕ-discrete y (hub up)) (λ e f. r .other (f ∙ ap (at up) e ∙ s .hub-self))
-        (λ o f. omega (arith, rooted s .falls r, rooted s .falls (uplinked (rooted s .low r) o), ap (depthOf up) f));
-  }
+  hop-good x y r = record { one = r .low; two = s .inside y (rooted s .low r); apart = λ e. hop-out x (r .low) (r .other) (rw (r .to, ← e) stay) }
 
   pub hops-good : AllGood (length up) (hops up)
   unfolding hops
   hops-good p m = let (q, i, e) = Memᴰ·of-map _ _ m in rw (← e) (hop-good (q .0) (q .1) (uplink-on up (q .0) (q .1) .0 i))
 
   hop-rings : (v : ℕ) → v < length up → v ≢ hub up → Rings (treeOf up) (Linked (hops up)) v
-  hop-rings v h o =
-      let r = uplinked h o in
-      record {
-        inner = v;
-        outer = at up (at up v);
-        link = inl (hop-in v h o);
-        below = stay;
-        beyond = dite (ℕ-discrete (at up v) (hub up))
-            (λ e u. no-return (rooted s) r (rw (ap (at up) e ∙ s .hub-self ∙ sym e) at u))
-            (λ z u. no-return (rooted s) r (step (uplinked (s .inside v h) z) u));
-      }
+  hop-rings v h o = record { inner = v; outer = at up (at up v); link = inl (hop-in v h o); below = stay; beyond = hop-out v h o }
 
   hop-carries : (v : ℕ) → v < length up → v ≢ hub up → at up v ≢ hub up → Carries (treeOf up) (Linked (hops up)) v
   hop-carries v h o z = record { inner = v; outer = at up (at up v); link = inl (hop-in v h o); below = stay; beyond = no-return (rooted s) (uplinked (s .inside v h) z) }

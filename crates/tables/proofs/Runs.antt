@@ -8,7 +8,8 @@ use Rattle.graph.proofs.Members.{here, there, cases, empty, parts}
 use Rattle.tables.specs.Verdict.{Fault, Sound, Refused}
 use Rattle.tables.specs.Batch.{batchVerdict}
 use Rattle.tables.specs.History.{History, Accepted, Lived}
-use Rattle.tables.specs.Calls.{keptBy, acceptedOf, HistoryOfRun}
+use Rattle.tables.specs.Outcome.{lentBy}
+use Rattle.tables.specs.Calls.{acceptedOf, HistoryOfRun}
 use Rattle.tables.proofs.Verdicts.{verdict-view}
 
 -- an accepted batch in front of a run, and a refused one
@@ -28,7 +29,7 @@ all-kept n (batch ∷ h) a = kept-first n batch h (a batch (here refl)) ∙ ap (
 left-out : (n : ℕ) (g h : History) (batch : List ℕ) (why : Fault) (place : ℕ) → batchVerdict n batch ≡ Refused why place → acceptedOf n (g ++ (batch ∷ h)) ≡ acceptedOf n (g ++ h)
 unfolding acceptedOf
 left-out n [] h batch why place e = refused-first n batch h e
-left-out n (b ∷ g) h batch why place e = ap (keptBy (batchVerdict n b) b) (left-out n g h batch why place e)
+left-out n (b ∷ g) h batch why place e = ap (λ k. lentBy (batchVerdict n b) k (b ∷ k)) (left-out n g h batch why place e)
 
 pub history-of-run : HistoryOfRun
 history-of-run = record { all-kept = all-kept; left-out = left-out }

@@ -6,14 +6,14 @@ use Prim.Native.Nat.{ℕ, _*_, _-_, _%_, _≤_}
 use lib.ListN.{length}
 use Rattle.plain.specs.Table.{total}
 use Rattle.graph.specs.Cable.{Cables}
-use Rattle.tables.specs.Verdict.{Fault, numberOf, faults, Verdict, Sound, Refused}
+use Rattle.tables.specs.Verdict.{Fault, numberOf, faults, Sound, Refused}
 use Rattle.tables.specs.Answer.{done, refusal}
 use Rattle.tables.specs.Tree.{sizeVerdict, aloneVerdict}
 use Rattle.tables.specs.Tables.{Tables, lengthsVerdict}
 use Rattle.tables.specs.Batch.{pairs, numbersVerdict, batchVerdict}
 use Rattle.tables.specs.Links.{Stands, tablesWith}
 use Rattle.tables.specs.History.{History, Accepted, Lived, tables}
-use Rattle.tables.specs.Outcome.{outcome, startOf, addOf}
+use Rattle.tables.specs.Outcome.{outcome, lentBy, startOf, addOf}
 
 -- over t Add is refused only where the batch is, and leaves t; else it is done, leaves t′, and its value is what the marks, added up, rose by
 pub record Adds (up batch : List ℕ) (t t′ : Tables) : Type 0 where
@@ -26,15 +26,10 @@ unfoldable pub added : List ℕ → History → Tables → Tables
 added up [] t = t
 added up (batch ∷ run) t = added up run (addOf up batch t .lent)
 
--- a batch in front of the others, where it is accepted
-abbrev pub keptBy : Verdict → List ℕ → History → History
-keptBy Sound batch h = batch ∷ h
-keptBy (Refused why place) batch h = h
-
 -- the history of a run: its batches that are accepted on n machines, in their order
 unfoldable pub acceptedOf : ℕ → History → History
 acceptedOf n [] = []
-acceptedOf n (batch ∷ run) = keptBy (batchVerdict n batch) batch (acceptedOf n run)
+acceptedOf n (batch ∷ run) = let h = acceptedOf n run in lentBy (batchVerdict n batch) h (batch ∷ h)
 
 -- that is: accepted batches are all kept, and a refused one makes no difference
 pub record HistoryOfRun : Type 0 where
