@@ -52,6 +52,7 @@ says_joins a b x y = says_or (says_and (says_eq x a) (says_eq y b)) (says_and (s
 -- a cable that joins a and b is counted
 counted : {p : ℕ × ℕ} (E : Cables) (a b : ℕ) → joins a b p ≡ true → p ∈ E → 1 ≤ between E a b
 unfolding between
+counted {p = p} [] a b e h = elim h [ ]
 counted (q ∷ E) a b e (here i) = let j : joins a b q ≡ true = rw i at e in rw j (omega arith)
 counted (q ∷ E) a b e (there h) = omega (arith, counted E a b e h)
 
@@ -119,6 +120,7 @@ less_in {p} (q ∷ E) a b h = by_cases (joins a b q)
 
 less_keeps_in : {p : ℕ × ℕ} (E : Cables) (a b : ℕ) → joins a b p ≡ false → p ∈ E → p ∈ less E a b
 unfolding less
+less_keeps_in {p = p} [] a b e h = elim h [ ]
 less_keeps_in (q ∷ E) a b e (here i) = let j : joins a b q ≡ false = rw i at e in rw j (here i)
 less_keeps_in (q ∷ E) a b e (there h) = by_cases (joins a b q) (λ j. rw j h) (λ j. rw j (there (less_keeps_in E a b e h)))
 

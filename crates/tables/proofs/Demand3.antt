@@ -17,7 +17,7 @@ use Rattle.graph.proofs.Cables.{flip, linked-append, linked_between, between-app
 use Rattle.graph.proofs.Renumbered.{cables_links, machines_carried, pairs_carried}
 use Rattle.graph.proofs.TwoPaths.{two_paths}
 use Rattle.rings.specs.Tree.{Uplink}
-use Rattle.rings.specs.Network.{Cabled, rising, falling}
+use Rattle.rings.specs.Network.{Cabled, rising, falling, cross}
 use Rattle.rings.proofs.Under.{uplinked}
 use Rattle.rings.proofs.Crossing.{tree_joins}
 use Rattle.tables.specs.AsTree.{tree_of}
@@ -63,6 +63,7 @@ module _ {up : List ℕ} (s : SoundTree up) (l : Cables) where
       step : (x y : ℕ) → Cabled (tree_of up) (λ x y. ⊥) x y → Linked (less E a b) x y
       step x y (rising r) = less_keeps E a b x y (apart r) (uplink_there r)
       step x y (falling r) = flip (less E a b) y x (less_keeps E a b y x (apart r) (uplink_there r))
+      step x y (cross z) = elim z [ ]
 
   choke_uplink : {v w : ℕ} → Uplink (tree_of up) v w → ChokePair E v w → ChokeUplink up l v
   choke_uplink {v} r c = record { machine = r.low; other = r.other; parted = rw (← r.to) at c.parted }
