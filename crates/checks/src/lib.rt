@@ -1,5 +1,7 @@
 // What is refused: the checks of each call, in the order of the codes, and the answer to a verdict; the checks of Start also leave the depths that they
 // find. No function that other crates see asks anything of its caller.
+#![tactic(auto)]
+
 ghost use Rattle.std.specs.Prelude.{◌≡◌, ◌≤◌, length};
 ghost use Rattle.tables.specs.Tree.{most_machines, tree_verdict, alone_verdict};
 ghost use Rattle.tables.specs.Tables.{tables_of};

@@ -1,4 +1,6 @@
 // chokes: a site file on standard input, its chokes on standard output.
+#![tactic(auto)]
+
 use libc::STDIN_FILENO;
 use site::Site;
 

@@ -1,4 +1,6 @@
 // labels: many site files in one run, each preceded by its length in 16 bits, each answered as chokes would and then by a line with a dot.
+#![tactic(auto)]
+
 ghost use Rattle.std.specs.Prelude.{◌≤◌};
 
 use libc::{STDIN_FILENO, STDOUT_FILENO};

@@ -1,5 +1,7 @@
 // What a batch of links does, in time near the number of machines and links on every tree: the two ends of a link meet by lanes, pieces of lines that
 // are passed at one hop, and one sweep over the machines on the lines of the ends raises the marks.
+#![tactic(auto)]
+
 ghost use Rattle.lanes.specs.Hung.{Batched};
 ghost use Rattle.lanes.specs.Whole.{Applicable, Applied, Bare, Looked, Joined, Prepared};
 

@@ -1,5 +1,7 @@
 // What is printed for a site file, written to standard output: after each turn the first bytes of the text, as many as the turn told. The law `Printing`
 // of the turns says of such a loop that it writes what is printed for the file.
+#![tactic(auto)]
+
 ghost use Rattle.std.specs.Prelude.{◌≤◌, length};
 
 use libc::STDOUT_FILENO;

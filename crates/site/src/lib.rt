@@ -1,4 +1,6 @@
 // A site of machines over lent slices: Start, Add and Report.
+#![tactic(auto)]
+
 ghost use Rattle.std.specs.Prelude.{◌≡◌};
 ghost use Rattle.tables.specs.Tables.{tables_of};
 ghost use Rattle.tables.specs.Report.{bytes_of};

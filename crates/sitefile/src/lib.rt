@@ -1,4 +1,6 @@
 // The site file: its records, and what they do to a site.
+#![tactic(auto)]
+
 mod due;
 mod kinds;
 pub mod read;

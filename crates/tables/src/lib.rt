@@ -1,5 +1,6 @@
 // The definitions and theorems of a site's tables. Why something is refused, what a check says and what a call answers are types that the
 // definitions and the code share; there is no function here.
+#![tactic(auto)]
 
 // Why something is refused, in the order of the codes: 1 to 9 by the calls of a site, 10 to 13 by the site file, 14 and 27 by its writer.
 #[derive(Drop)]

@@ -1,4 +1,6 @@
 // tablet: the site file of the shop on standard output.
+#![tactic(auto)]
+
 use libc::{STDERR_FILENO, STDOUT_FILENO};
 use tables::Answer;
 

@@ -1,4 +1,6 @@
 // The text of a refusal and of a report, written into a lent buffer. Each inner function writes from a place on, and answers the next.
+#![tactic(auto)]
+
 ghost use Rattle.std.specs.Prelude.{◌≡◌, cond, not, [], ◌∷◌, ◌+◌, ◌<◌, ◌≤◌, length, eqb};
 ghost use Rattle.tables.specs.Outcome.{outcome};
 ghost use Rattle.tables.specs.Report.{named};

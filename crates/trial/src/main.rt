@@ -1,5 +1,7 @@
 // Runs the calls on the sites of a text, and prints what came. The text is on standard input: a site stands in brackets, and what is outside
 // them is printed as it is.
+#![tactic(auto)]
+
 mod calls;
 mod print;
 mod read;

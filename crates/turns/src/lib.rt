@@ -1,5 +1,7 @@
 // One turn of the program: the next record of a site file, and what it prints laid over the front of a lent buffer. A loop that writes, after each
 // turn, as many bytes of the buffer as the turn told writes what is printed for the file: `Printing` of specs/Turn.antt.
+#![tactic(auto)]
+
 ghost use Rattle.std.specs.Prelude.{◌≡◌, List, ℕ, length};
 ghost use Rattle.tables.specs.Outcome.{outcome};
 ghost use Rattle.sitefile.specs.File.{begin, reader_of};

@@ -1,4 +1,6 @@
 // The writer of site files: a tree, batches of links, and the reports asked after them, as one site file in a lent buffer.
+#![tactic(auto)]
+
 ghost use Rattle.std.specs.Prelude.{◌≡◌};
 ghost use Rattle.tables.specs.Outcome.{outcome};
 ghost use Rattle.writer.specs.Written.{write_verdict, write_of};
