@@ -1,0 +1,16 @@
+-- `Site::report`: a check that refuses is the answer; else the outputs are filled.
+use Rattle.tables.specs.Outcome.{report_of}
+use Rattle.site.proofs.Answers.{refused, report_ready, report_left}
+use Rattle.site.proofs.Site.report.Goals as goal
+
+pub returns-in_default : goal.returns-in_default
+unfolding report_of
+returns-in_default c = search refused
+
+pub fill-chokes-requires : goal.fill-chokes-requires
+unfolding report_of
+fill-chokes-requires c = search report_ready
+
+pub returns : goal.returns
+unfolding report_of
+returns c = search report_left
