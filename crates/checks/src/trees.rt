@@ -9,7 +9,7 @@ use tables::{Fault, Verdict};
 const UNKNOWN: u16 = 65535;
 
 // Where a climb stopped, and after how many steps.
-#[derive(Drop)]
+#[derive(Clone, Copy)]
 struct Stop {
     steps: usize,
     at: usize,

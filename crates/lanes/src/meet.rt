@@ -4,7 +4,7 @@ ghost use Rattle.lanes.specs.Lane.{Hops, Stand, Closes, MetAt};
 use crate::table::at;
 
 // Where the lines of two machines meet, and the highest machine of each arm below it; w, where an arm is empty.
-#[derive(Drop)]
+#[derive(Clone, Copy)]
 pub struct Met {
     pub w: usize,
     pub c: usize,

@@ -12,7 +12,7 @@ mod report;
 use tables::{Answer, Verdict};
 
 // A site is the slices that its calls are lent; the type has the limits and the calls.
-#[derive(Drop)]
+#[derive(Clone, Copy)]
 pub struct Site {}
 
 impl Site {

@@ -7,7 +7,7 @@ use crate::{Reader, record};
 use tables::{Answer, Fault};
 
 // What the file asks for next.
-#[derive(Drop)]
+#[derive(Clone, Copy)]
 pub enum Due {
     // The file ends as it may.
     End,

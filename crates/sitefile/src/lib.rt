@@ -10,7 +10,7 @@ use tables::Answer;
 
 // How far a site file is read: the place of the next record, the number of machines (0 before kind 1), how many uplinks are read, and how
 // many numbers of links that are not closed.
-#[derive(Drop)]
+#[derive(Clone, Copy)]
 pub struct Reader {
     pub place: usize,
     pub n: usize,
@@ -19,7 +19,7 @@ pub struct Reader {
 }
 
 // What the next record comes to.
-#[derive(Drop)]
+#[derive(Clone, Copy)]
 pub enum Step {
     // It is read, and there is more.
     Read(Reader),

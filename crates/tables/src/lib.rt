@@ -3,7 +3,7 @@
 #![tactic(auto)]
 
 // Why something is refused, in the order of the codes: 1 to 9 by the calls of a site, 10 to 13 by the site file, 14 and 27 by its writer.
-#[derive(Drop)]
+#[derive(Clone, Copy)]
 pub enum Fault {
     // There is no machine, or there are too many.
     Size,
@@ -38,14 +38,14 @@ pub enum Fault {
 }
 
 // What a check says: all is well, or why it is refused, and where.
-#[derive(Drop)]
+#[derive(Clone, Copy)]
 pub enum Verdict {
     Sound,
     Refused(Fault, usize),
 }
 
 // What a call answers: its code, and the value that goes with it.
-#[derive(Drop)]
+#[derive(Clone, Copy)]
 pub struct Answer {
     pub code: u16,
     pub value: usize,

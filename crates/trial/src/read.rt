@@ -5,7 +5,7 @@ ghost use Rattle.io.specs.Counts.{IsPrefixLen};
 use libc::STDIN_FILENO;
 
 // A number, and the byte that ended it.
-#[derive(Drop)]
+#[derive(Clone, Copy)]
 struct Entry {
     value: u16,
     end: u8,

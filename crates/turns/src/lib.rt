@@ -17,7 +17,7 @@ use tables::Fault;
 pub const MOST_BYTES: usize = 16384;
 
 // What a turn comes to.
-#[derive(Drop)]
+#[derive(Clone, Copy)]
 pub enum Turn {
     // So many bytes of text, and there is more, from this reader on.
     More(Reader, usize),

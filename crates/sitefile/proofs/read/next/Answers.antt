@@ -1,11 +1,13 @@
 -- `read::next`: a reader that does not fit is answered at once; else what is due is done.
 use borrow.Author.Rules.{rules}
 use Rattle.sitefile.proofs.ReadNext.{next_unfit, counts, next_done}
-use Rattle.sitefile.proofs.read.next.Statement.{statement}
-use Rattle.sitefile.proofs.read.next.Tie as tie
+use Rattle.sitefile.proofs.read.next.Goals as goal
 
-done_requires : tie.Need-done-requires
-done_requires c κs = record {
+pub returns-then-not-counts_fit : goal.returns-then-not-counts_fit
+returns-then-not-counts_fit c = search next_unfit
+
+pub done-requires : goal.done-requires
+done-requires c = record {
   is_due = search rules;
   counts = search counts;
   in_up = search rules;
@@ -17,5 +19,5 @@ done_requires c κs = record {
   in_links = search rules;
 }
 
-pub next_spec : {M : Type 1} → statement M
-next_spec = tie.close (tie.spec (λ c κs. search rules) (λ c. search next_unfit) (λ c κs. search rules) done_requires (λ c. search next_done))
+pub returns : goal.returns
+returns c = search next_done

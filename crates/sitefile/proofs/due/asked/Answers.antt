@@ -1,0 +1,18 @@
+-- `due::asked`: case by case of the kind.
+use borrow.Author.Tests.{ne_eqb}
+use Rattle.sitefile.proofs.due.asked.Goals as goal
+
+pub returns-in-1 : goal.returns-in-1
+returns-in-1 c = rw c.in-1.is
+
+pub returns-in-2 : goal.returns-in-2
+returns-in-2 c = rw c.in-2.is
+
+pub returns-in-3 : goal.returns-in-3
+returns-in-3 c = rw c.in-3.is
+
+pub returns-in-4 : goal.returns-in-4
+returns-in-4 c = rw c.in-4.is
+
+pub returns-in-0-2 : goal.returns-in-0-2
+returns-in-0-2 c = search ne_eqb
