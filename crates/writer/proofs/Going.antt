@@ -45,18 +45,18 @@ module _ {file : List ℕ} where
   unfolding heard
   says_it g zero h = absurd (omega arith)
   says_it (ended e) (suc k) h = rw (e, heard)
-  says_it (reading e c g) (suc k) h = rw (e, heard, c) (says_it g k (read_less (leads_to e) k h))
-  says_it (closing e c g) (suc k) h = rw (e, heard, c, says_it g k (read_less (leads_to e) k h))
-  says_it (asking e g) (suc k) h = rw (e, heard, says_it g k (report_less (leads_to e) k h))
+  says_it {r = r} (reading {r' = r'} e c g) (suc k) h = rw (e, heard, c) (says_it {r = r'} g k (read_less (leads_to e) k h))
+  says_it {r = r} (closing {r' = r'} e c g) (suc k) h = rw (e, heard, c, says_it {r = r'} g k (read_less (leads_to e) k h))
+  says_it {r = r} (asking {r' = r'} e g) (suc k) h = rw (e, heard, says_it {r = r'} g k (report_less (leads_to e) k h))
 
   prints_it : {r : Read} {up : List ℕ} {acts : List Act} {text : List ℕ} → Goes file r up acts text → (k : ℕ) → length file - r.place < k
       → prints k file r ≡ text
   unfolding prints
   prints_it g zero h = absurd (omega arith)
   prints_it (ended e) (suc k) h = rw (e, prints)
-  prints_it (reading e c g) (suc k) h = rw (e, prints) (prints_it g k (read_less (leads_to e) k h))
-  prints_it (closing e c g) (suc k) h = rw (e, prints) (prints_it g k (read_less (leads_to e) k h))
-  prints_it (asking {r' = r'} {o} e g) (suc k) h = rw (e, prints) (ap (λ t. report_text r'.up o ++ t) (prints_it g k (report_less (leads_to e) k h)))
+  prints_it {r = r} (reading {r' = r'} e c g) (suc k) h = rw (e, prints) (prints_it {r = r'} g k (read_less (leads_to e) k h))
+  prints_it {r = r} (closing {r' = r'} e c g) (suc k) h = rw (e, prints) (prints_it {r = r'} g k (read_less (leads_to e) k h))
+  prints_it {r = r} (asking {r' = r'} {o} e g) (suc k) h = rw (e, prints) (ap (λ t. report_text r'.up o ++ t) (prints_it {r = r'} g k (report_less (leads_to e) k h)))
 
   module _ {up : List ℕ} {acts : List Act} {text : List ℕ} (short : length file ≤ most_bytes) (g : Goes file begin up acts text) where
     pub goes_says : said_by file ≡ says up acts
