@@ -1,10 +1,10 @@
 // chokes: a site file on standard input, its chokes on standard output.
 #![tactic(auto)]
 
-use libc::STDIN_FILENO;
 use site::Site;
+use std::io;
 
-fn main() {
+fn main(rt: HostRuntime) -> io::Result<()> {
     let mut file = [0u8; turns::MOST_BYTES + 1];
     let mut up = [0u16; Site::MACHINES];
     let mut depth = [0u16; Site::MACHINES];
@@ -14,8 +14,9 @@ fn main() {
     let mut machines = [0u8; Site::MACHINES];
     let mut links = [0u8; Site::MACHINES];
     let mut text = [0u8; text::MOST_TEXT];
-    let k = io::read_full(STDIN_FILENO, &mut file);
+    let k = intake::read_full(&mut rt.reader(), &mut file)?;
     printer::print_file(
+        &rt,
         &file[..k],
         &mut up,
         &mut depth,
@@ -25,5 +26,5 @@ fn main() {
         &mut machines,
         &mut links,
         &mut text,
-    );
+    )
 }

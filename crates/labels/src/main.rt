@@ -3,8 +3,9 @@
 
 ghost use Rattle.std.specs.Prelude.{◌≤◌};
 
-use libc::{STDIN_FILENO, STDOUT_FILENO};
 use site::Site;
+use std::io;
+use std::io::Read;
 
 // A stream may have so many files.
 const MOST_FILES: usize = 4294967296;
@@ -19,33 +20,35 @@ fn wide(byte: u8) -> usize
 }
 
 // The length of the next file; one over every length where the stream ends.
-fn next_length() -> usize {
+fn next_length(from: &mut impl Read) -> io::Result<usize> {
     let mut head = [0u8; 2];
-    if io::read_full(STDIN_FILENO, &mut head) < 2 {
-        return MOST_LENGTH + 1;
+    if intake::read_full(from, &mut head)? < 2 {
+        return Ok(MOST_LENGTH + 1);
     }
-    wide(head[0]) + 256 * wide(head[1])
+    Ok(wide(head[0]) + 256 * wide(head[1]))
 }
 
 // Reads the next file of the stream into the front of `file`, and answers its length; more than any length where the stream ends.
-fn read_next(file: &mut [u8]) -> usize {
-    let n = next_length();
+fn read_next(from: &mut impl Read, file: &mut [u8]) -> io::Result<usize> {
+    let n = next_length(from)?;
     if n > file.len() {
-        return n;
+        return Ok(n);
     }
-    if io::read_full(STDIN_FILENO, &mut file[..n]) < n {
-        return MOST_LENGTH + 1;
+    if intake::read_full(from, &mut file[..n])? < n {
+        return Ok(MOST_LENGTH + 1);
     }
-    n
+    Ok(n)
 }
 
 // The line that ends an answer.
-fn end_answer() -> bool {
-    io::write_all(STDOUT_FILENO, b".\n")
+fn end_answer(out: &impl Print) -> io::Result<()> {
+    out.write_all(b".\n")
 }
 
 // The next file of the stream, answered over lent room; false where the stream ends.
 fn answer_one(
+    out: &impl Print,
+    from: &mut impl Read,
     file: &mut [u8],
     up: &mut [u16; Site::MACHINES],
     depth: &mut [u16; Site::MACHINES],
@@ -55,12 +58,13 @@ fn answer_one(
     machines: &mut [u8; Site::MACHINES],
     links: &mut [u8; Site::MACHINES],
     text: &mut [u8; text::MOST_TEXT],
-) -> bool {
-    let n = read_next(file);
+) -> io::Result<bool> {
+    let n = read_next(from, file)?;
     if n > file.len() {
-        return false;
+        return Ok(false);
     }
     printer::print_file(
+        out,
         &file[..n],
         up,
         depth,
@@ -70,12 +74,15 @@ fn answer_one(
         machines,
         links,
         text,
-    );
-    end_answer()
+    )?;
+    end_answer(out)?;
+    Ok(true)
 }
 
 // Every file of the stream.
 fn answer_all(
+    out: &impl Print,
+    from: &mut impl Read,
     file: &mut [u8],
     up: &mut [u16; Site::MACHINES],
     depth: &mut [u16; Site::MACHINES],
@@ -85,17 +92,20 @@ fn answer_all(
     machines: &mut [u8; Site::MACHINES],
     links: &mut [u8; Site::MACHINES],
     text: &mut [u8; text::MOST_TEXT],
-) {
+) -> io::Result<()> {
     let mut left = MOST_FILES;
     while 0 < left {
         left -= 1;
-        if !answer_one(file, up, depth, group, mark, batch, machines, links, text) {
-            return;
+        if !answer_one(
+            out, from, file, up, depth, group, mark, batch, machines, links, text,
+        )? {
+            return Ok(());
         }
     }
+    Ok(())
 }
 
-fn main() {
+fn main(rt: HostRuntime) -> io::Result<()> {
     let mut file = [0u8; MOST_LENGTH];
     let mut up = [0u16; Site::MACHINES];
     let mut depth = [0u16; Site::MACHINES];
@@ -106,6 +116,8 @@ fn main() {
     let mut links = [0u8; Site::MACHINES];
     let mut text = [0u8; text::MOST_TEXT];
     answer_all(
+        &rt,
+        &mut rt.reader(),
         &mut file,
         &mut up,
         &mut depth,
@@ -115,5 +127,5 @@ fn main() {
         &mut machines,
         &mut links,
         &mut text,
-    );
+    )
 }

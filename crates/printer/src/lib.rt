@@ -4,19 +4,20 @@
 
 ghost use Rattle.std.specs.Prelude.{◌≤◌, length};
 
-use libc::STDOUT_FILENO;
 use site::Site;
+use std::io;
 use turns::Turn;
 
 // The first k bytes of a text.
-fn write_front(text: &[u8], k: usize)
+fn write_front(out: &impl Print, text: &[u8], k: usize) -> io::Result<()>
     requires { k ≤ length text.now }
 {
-    io::write_all(STDOUT_FILENO, &text[..k]);
+    out.write_all(&text[..k])
 }
 
 // One site file over lent room. What it holds does not matter.
 pub fn print_file(
+    out: &impl Print,
     file: &[u8],
     up: &mut [u16; Site::MACHINES],
     depth: &mut [u16; Site::MACHINES],
@@ -26,7 +27,7 @@ pub fn print_file(
     machines: &mut [u8; Site::MACHINES],
     links: &mut [u8; Site::MACHINES],
     text: &mut [u8; text::MOST_TEXT],
-) {
+) -> io::Result<()> {
     let mut reader = turns::first();
     loop {
         let turn = turns::take(
@@ -34,15 +35,14 @@ pub fn print_file(
         );
         match turn {
             Turn::More(next, k) => {
-                write_front(text, k);
+                write_front(out, text, k)?;
                 reader = next;
             }
             Turn::Done(k) => {
-                write_front(text, k);
-                return;
+                return write_front(out, text, k);
             }
             Turn::Unfit => {
-                return;
+                return Ok(());
             }
         }
     }

@@ -1,9 +1,9 @@
 #![tactic(auto)]
 
-use libc::STDOUT_FILENO;
 use site::Site;
+use std::io;
 
-fn main() {
+fn main(rt: HostRuntime) -> io::Result<()> {
     let up = [0u16, 0, 1, 1];
     let mut depth = [0u16; 4];
     let mut group = [0u16; 4];
@@ -13,6 +13,5 @@ fn main() {
     Site::start(&up, &mut depth, &mut group, &mut mark);
     Site::add(&up, &mut depth, &mut group, &mut mark, &[0, 2]);
     let given = Site::report(&up, &depth, &group, &mark, &mut machines, &mut links);
-    io::print_decimal(STDOUT_FILENO, given.value as u64);
-    io::write_all(STDOUT_FILENO, b"\n");
+    println!(rt; "{}", given.value)
 }

@@ -3,6 +3,8 @@
 // as it is left. The end of a line is printed as well, and other bytes say nothing.
 use crate::{print, read};
 use site::Site;
+use std::io;
+use std::io::Read;
 
 // A batch may have one link more than Add takes.
 const ROOM: usize = 2 * Site::LINKS + 2;
@@ -13,47 +15,72 @@ const MOST_LIST: usize = 65535;
 // A site may have so many letters.
 const MOST_LETTERS: usize = 64;
 
-fn add(up: &[u16], depth: &mut [u16], group: &mut [u16], mark: &mut [u8]) {
+fn add(
+    out: &impl Print,
+    from: &mut impl Read,
+    up: &[u16],
+    depth: &mut [u16],
+    group: &mut [u16],
+    mark: &mut [u8],
+) -> io::Result<()> {
     let mut batch = [0u16; ROOM];
-    let b = read::list(&mut batch);
-    print::answer(b" add", Site::add(up, depth, group, mark, &batch[..b]));
+    let b = read::list(from, &mut batch)?;
+    print::answer(out, b" add", Site::add(up, depth, group, mark, &batch[..b]))
 }
 
-fn written(up: &[u16], links: &[u16], lengths: &[u16], reports: &[u8], buffer: &mut [u8]) {
+fn written(
+    out: &impl Print,
+    up: &[u16],
+    links: &[u16],
+    lengths: &[u16],
+    reports: &[u8],
+    buffer: &mut [u8],
+) -> io::Result<()> {
     print::answer(
+        out,
         b" write",
         writer::write(up, links, lengths, reports, buffer),
-    );
-    print::bytes(b"; buffer", buffer);
+    )?;
+    print::bytes(out, b"; buffer", buffer)
 }
 
-fn write(up: &[u16]) {
+fn write(out: &impl Print, from: &mut impl Read, up: &[u16]) -> io::Result<()> {
     let mut links = [0u16; MOST_LIST];
     let mut lengths = [0u16; MOST_LIST];
     let mut reports = [0u8; MOST_LIST];
     let mut buffer = [0u8; MOST_LIST];
-    let k = read::list(&mut links);
-    let b = read::list(&mut lengths);
-    let r = read::bytes(&mut reports);
-    let m = read::bytes(&mut buffer);
+    let k = read::list(from, &mut links)?;
+    let b = read::list(from, &mut lengths)?;
+    let r = read::bytes(from, &mut reports)?;
+    let m = read::bytes(from, &mut buffer)?;
     written(
+        out,
         up,
         &links[..k],
         &lengths[..b],
         &reports[..r],
         &mut buffer[..m],
-    );
+    )
 }
 
-fn show(depth: &[u16], group: &[u16], mark: &[u8], machines: &[u8], links: &[u8]) {
-    print::table(b"; depths", depth);
-    print::table(b"; groups", group);
-    print::bytes(b"; marks", mark);
-    print::bytes(b"; machines", machines);
-    print::bytes(b"; links", links);
+fn show(
+    out: &impl Print,
+    depth: &[u16],
+    group: &[u16],
+    mark: &[u8],
+    machines: &[u8],
+    links: &[u8],
+) -> io::Result<()> {
+    print::table(out, b"; depths", depth)?;
+    print::table(out, b"; groups", group)?;
+    print::bytes(out, b"; marks", mark)?;
+    print::bytes(out, b"; machines", machines)?;
+    print::bytes(out, b"; links", links)
 }
 
 fn one(
+    out: &impl Print,
+    from: &mut impl Read,
     letter: u8,
     up: &[u16],
     depth: &mut [u16],
@@ -61,41 +88,47 @@ fn one(
     mark: &mut [u8],
     machines: &mut [u8],
     links: &mut [u8],
-) {
+) -> io::Result<()> {
     if letter == b'S' {
-        print::answer(b" start", Site::start(up, depth, group, mark));
+        print::answer(out, b" start", Site::start(up, depth, group, mark))
     } else if letter == b'A' {
-        add(up, depth, group, mark);
+        add(out, from, up, depth, group, mark)
     } else if letter == b'R' {
         print::answer(
+            out,
             b" report",
             Site::report(up, depth, group, mark, machines, links),
-        );
+        )
     } else if letter == b'T' {
-        show(depth, group, mark, machines, links);
+        show(out, depth, group, mark, machines, links)
     } else if letter == b'W' {
-        write(up);
+        write(out, from, up)
     } else if letter == b'\n' {
-        print::text(b"\n");
+        print::text(out, b"\n")
+    } else {
+        Ok(())
     }
 }
 
 // Every letter up to the bracket.
 pub fn all(
+    out: &impl Print,
+    from: &mut impl Read,
     up: &[u16],
     depth: &mut [u16],
     group: &mut [u16],
     mark: &mut [u8],
     machines: &mut [u8],
     links: &mut [u8],
-) {
+) -> io::Result<()> {
     let mut left = MOST_LETTERS;
     while 0 < left {
         left -= 1;
-        let letter = read::byte();
+        let letter = read::byte(from)?;
         if letter == b']' {
-            return;
+            return Ok(());
         }
-        one(letter, up, depth, group, mark, machines, links);
+        one(out, from, letter, up, depth, group, mark, machines, links)?;
     }
+    Ok(())
 }

@@ -7,6 +7,8 @@ mod print;
 mod read;
 
 use site::Site;
+use std::io;
+use std::io::Read;
 
 // The slices of a site may have one machine more than a site.
 const ROOM: usize = Site::MACHINES + 1;
@@ -15,46 +17,50 @@ const ROOM: usize = Site::MACHINES + 1;
 const MOST_BYTES: usize = 65536;
 
 // What follows a bracket: the lists of up, depth, group, mark, machine bytes and link bytes, and then the letters of what is done.
-fn site() {
+fn site(out: &impl Print, from: &mut impl Read) -> io::Result<()> {
     let mut up = [0u16; ROOM];
     let mut depth = [0u16; ROOM];
     let mut group = [0u16; ROOM];
     let mut mark = [0u8; ROOM];
     let mut machines = [0u8; ROOM];
     let mut links = [0u8; ROOM];
-    let u = read::list(&mut up);
-    let d = read::list(&mut depth);
-    let g = read::list(&mut group);
-    let m = read::bytes(&mut mark);
-    let o = read::bytes(&mut machines);
-    let l = read::bytes(&mut links);
+    let u = read::list(from, &mut up)?;
+    let d = read::list(from, &mut depth)?;
+    let g = read::list(from, &mut group)?;
+    let m = read::bytes(from, &mut mark)?;
+    let o = read::bytes(from, &mut machines)?;
+    let l = read::bytes(from, &mut links)?;
     calls::all(
+        out,
+        from,
         &up[..u],
         &mut depth[..d],
         &mut group[..g],
         &mut mark[..m],
         &mut machines[..o],
         &mut links[..l],
-    );
+    )
 }
 
 // A byte outside brackets, or a whole site.
-fn item(byte: u8) {
+fn item(out: &impl Print, from: &mut impl Read, byte: u8) -> io::Result<()> {
     if byte == b'[' {
-        site();
+        site(out, from)
     } else {
-        print::text(&[byte]);
+        print::text(out, &[byte])
     }
 }
 
-fn main() {
+fn main(rt: HostRuntime) -> io::Result<()> {
+    let mut from = rt.reader();
     let mut left = MOST_BYTES;
     while 0 < left {
         left -= 1;
-        let byte = read::byte();
+        let byte = read::byte(&mut from)?;
         if byte == 0 {
-            return;
+            return Ok(());
         }
-        item(byte);
+        item(&rt, &mut from, byte)?;
     }
+    Ok(())
 }

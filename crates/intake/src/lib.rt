@@ -1,0 +1,23 @@
+// What is read from a stream: bytes up to a length, or up to its end.
+#![tactic(auto)]
+
+ghost use Rattle.std.specs.Prelude.{◌≡◌, ◌≤◌, length, IfOk};
+
+use std::io;
+use std::io::Read;
+
+// Reads until `to` is full or the stream ends, and answers how many bytes it put at the front of `to`.
+pub fn read_full<R: Read>(from: &mut R, to: &mut [u8]) -> io::Result<usize>
+    ensures front { IfOk result (λ n. n ≤ length to.new) }
+    ensures size { length to.new ≡ length to.old }
+{
+    let mut done = 0;
+    while done < to.len() {
+        let n = from.read(&mut to[done..])?;
+        if n == 0 {
+            break;
+        }
+        done += n;
+    }
+    Ok(done)
+}
