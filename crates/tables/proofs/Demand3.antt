@@ -26,7 +26,7 @@ use Rattle.tables.specs.History.{links}
 use Rattle.tables.specs.Answer.{Answer}
 use Rattle.tables.specs.Outcome.{Outcome}
 use Rattle.tables.specs.Report.{Bytes}
-use Rattle.tables.specs.Cables.{uplinks, cables, ChokeMachine, ChokeUplink, ChokeEnds}
+use Rattle.tables.specs.Cables.{cables, ChokeMachine, ChokeUplink, ChokeEnds}
 use Rattle.tables.specs.Demand1.{SoundTree}
 use Rattle.tables.specs.Demand2.{Reported}
 use Rattle.tables.specs.Demand3.{Renumbered, NamedEnds, Carried, TwoWays, Demand3}

@@ -10,7 +10,6 @@ use lib.ListN.{length}
 use lib.Dec.{eqb}
 use borrow.Author.Tests.{eq-eqb, ne_eqb, not-false}
 use Rattle.plain.proofs.Says.{says_if, Says, says_map, says_eq, says_le, says_lt, says_not, says_and, says_unless}
-use Rattle.plain.specs.Search.{least}
 use Rattle.plain.specs.Table.{at}
 use Rattle.graph.specs.Walk.{Relation, stay, step}
 use Rattle.rings.proofs.Groups.{member, mirror}

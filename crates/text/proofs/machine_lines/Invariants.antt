@@ -2,7 +2,7 @@
 use Prim.Native.Nat.{◌-◌}
 use lib.ListN.{length}
 use Rattle.text.specs.Text.{machine_line}
-use Rattle.text.proofs.Lines.{Lining, next}
+use Rattle.text.proofs.Lines.{Lining}
 use Rattle.text.proofs.machine_lines.Given as goal
 
 abbrev pub invariant-loop-k : goal.invariant-loop-k

@@ -1,6 +1,5 @@
 -- The goals that are left, each by its law.
 use native.Mathlib.Omega.{arith}
-use Rattle.tables.specs.Report.{ends}
 use Rattle.plain.proofs.Loops.{counted_none, counted_more, counted_all}
 use Rattle.site.proofs.report.count_ends.Goals as goal
 

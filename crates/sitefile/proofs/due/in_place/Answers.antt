@@ -1,6 +1,4 @@
 -- `due::in_place`: case by case of the kind.
-use mathlib.Core.Logic.{⊎_elim}
-use borrow.Author.Tests.{ne_eqb}
 use Rattle.sitefile.proofs.due.in_place.Goals as goal
 
 pub returns-in-1 : goal.returns-in-1
