@@ -1,7 +1,8 @@
 // What is read from a stream: bytes up to a length, or up to its end.
 #![tactic(auto)]
 
-ghost use Rattle.std.specs.Prelude.{◌≡◌, ◌≤◌, length, IfOk};
+ghost use Rattle.std.specs.Prelude.{◌≡◌, ◌<◌, ◌≤◌, length, take, IfOk};
+ghost use Rattle.std.specs.Io.KnownBytes.{Consumes, IsAtEnd};
 
 use std::io;
 use std::io::Read;
@@ -10,12 +11,14 @@ use std::io::Read;
 pub fn read_full<R: Read>(from: &mut R, to: &mut [u8]) -> io::Result<usize>
     ensures front { IfOk result (λ n. n ≤ length to.new) }
     ensures size { length to.new ≡ length to.old }
+    ensures bytes { IfOk result (λ n. Consumes (R.remaining from.old) (R.remaining from.new) (take n to.new)) }
+    ensures end { IfOk result (λ n. n < length to.new → IsAtEnd (R.remaining from.new)) }
 {
     let mut done = 0;
     while done < to.len() {
         let n = from.read(&mut to[done..])?;
         if n == 0 {
-            break;
+            return Ok(done);
         }
         done += n;
     }
