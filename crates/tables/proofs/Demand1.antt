@@ -27,7 +27,7 @@ use Rattle.tables.proofs.Sound.{sound_tree, trees_exact}
 use Rattle.tables.proofs.Kept.{sound_kept}
 use Rattle.tables.proofs.Histories.{left_links}
 use Rattle.tables.proofs.Complete.{complete}
-use Rattle.tables.proofs.Calls.{rules_met}
+use Rattle.tables.proofs.Adding.{rules_met}
 
 -- the links of tables that break no rule
 module _ (up : List ℕ) (t : Tables) (d : length t.depth ≡ length up) (g : length t.group ≡ length up) (m : length t.mark ≡ length up) (e : tree_verdict up ≡ Sound) where

@@ -33,7 +33,8 @@ use Rattle.tables.proofs.Runs.{lived_run}
 use Rattle.tables.proofs.Reports.{machine_bytes_lem, hub_byte, link_bytes_lem, link_small, never_three}
 use Rattle.tables.proofs.Cabling.{linked_cabled, machine_cabled, uplink_cabled}
 use Rattle.tables.proofs.Counting.{named_list}
-use Rattle.tables.proofs.Calls.{rules_met, lengths_met, calls_live}
+use Rattle.tables.proofs.Adding.{rules_met, lengths_met}
+use Rattle.tables.proofs.Calls.{calls_live}
 use Rattle.tables.proofs.Demand1.{rules_links, site_of, report_came}
 
 module _ {up : List ℕ} {l : Cables} (st : Stands up l) where

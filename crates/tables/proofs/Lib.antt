@@ -23,6 +23,7 @@ pub mod Rise
 pub mod Sized
 pub mod Counting
 pub mod Laws
+pub mod Adding
 pub mod Calls
 pub mod Fullest
 pub mod Work
