@@ -1,5 +1,5 @@
 // Bytes, numbers and lists, from standard input.
-ghost use Rattle.std.specs.Prelude.{◌≤◌, length, IfOk};
+ghost use Rattle.std.specs.Prelude.{◌≡◌, ◌≤◌, length, take, IfOk};
 
 use std::io;
 use std::io::Read;
@@ -70,7 +70,8 @@ fn length(from: &mut impl Read, room: usize) -> io::Result<usize>
 // A list into the front of `to`: its length, a colon, numbers with commas between, and a space. The last number stands for the rest of the length,
 // and with a plus for the space they count on: `4:0,5 ` is 0,5,5,5 and `4:0,5+` is 0,5,6,7. An empty list is `0 `.
 pub fn list(from: &mut impl Read, to: &mut [u16]) -> io::Result<usize>
-    ensures { IfOk result (λ n. n ≤ length to.new) }
+    ensures front { IfOk result (λ n. (n ≤ length to.new) × (n ≡ length (take n to.new))) }
+    ensures size { length to.new ≡ length to.old }
 {
     let n = length(from, to.len())?;
     let mut last = Entry {
@@ -88,7 +89,8 @@ pub fn list(from: &mut impl Read, to: &mut [u16]) -> io::Result<usize>
 
 // The same for bytes.
 pub fn bytes(from: &mut impl Read, to: &mut [u8]) -> io::Result<usize>
-    ensures { IfOk result (λ n. n ≤ length to.new) }
+    ensures front { IfOk result (λ n. (n ≤ length to.new) × (n ≡ length (take n to.new))) }
+    ensures size { length to.new ≡ length to.old }
 {
     let n = length(from, to.len())?;
     let mut last = Entry {
