@@ -54,11 +54,11 @@ module _ (file : List ℕ) (r : Read) where
 
   pub size_read : (n : ℕ) (post : List ℕ) → Stands 1 (n ∷ []) post → Fits 1 → step file r ≡ size r n
   unfolding done words body_length
-  size_read n post here fits = rw (step_is 1 (n ∷ []) post refl here refl fits, body_is 1 (n ∷ []) post refl here, two_bytes n)
+  size_read n post here fits = rw (step_is 1 (n ∷ []) post refl here refl fits, body_is 1 (n ∷ []) post refl here) (ap (size r) (two_bytes n))
 
   pub uplink_read : (u : ℕ) (post : List ℕ) → Stands 2 (u ∷ []) post → Fits 2 → step file r ≡ uplink r u
   unfolding done words body_length
-  uplink_read u post here fits = rw (step_is 2 (u ∷ []) post refl here refl fits, body_is 2 (u ∷ []) post refl here, two_bytes u)
+  uplink_read u post here fits = rw (step_is 2 (u ∷ []) post refl here refl fits, body_is 2 (u ∷ []) post refl here) (ap (uplink r) (two_bytes u))
 
   pub link_read : (a b : ℕ) (post : List ℕ) → Stands 3 (a ∷ b ∷ []) post → Fits 3 → step file r ≡ link r a b
   unfolding done words body_length

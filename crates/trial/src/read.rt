@@ -1,4 +1,4 @@
-// Bytes, numbers and lists, from standard input.
+// Bytes, numbers and lists, from a stream.
 ghost use Rattle.std.specs.Prelude.{◌≡◌, ◌≤◌, length, take, IfOk};
 
 use std::io;

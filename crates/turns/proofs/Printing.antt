@@ -48,14 +48,14 @@ module _ (file : List ℕ) (short : length file ≤ most_bytes) where
   once : (k : ℕ) (r : Read) (d : Desk) {next : FileStep} → Leads file r next → step file r ≡ next → Follows k → Ready r d
       → writes (suc k) file (reader_of r) d ≡ prints (suc k) file r
   unfolding writes of_turn prints
-  once k r d (onward {r'} l) e rest q =
-      let m = l.keeps q.led in
-      rw (turn_is q, e, prints)
-      (rest r' _ (record { led = m; held = holds d.room m d.room.outputs }))
   once k r d (reporting {r'} {o} l w) e rest q =
       let m = l.keeps q.led in
       rw (turn_is q, e, prints, shown_is d.room w, take_laid (report_text r'.up o) d.text)
       (ap (λ x. report_text r'.up o ++ x) (rest r' _ (record { led = m; held = holds d.room m _ })))
+  once k r d (onward {r'} l) e rest q =
+      let m = l.keeps q.led in
+      rw (turn_is q, e, prints)
+      (rest r' _ (record { led = m; held = holds d.room m d.room.outputs }))
   once k r d ending e rest q = rw (turn_is q, e, prints)
   once k r d (refusing {a}) e rest q = rw (turn_is q, e, prints) (take_laid (refusal_text a) d.text)
 
