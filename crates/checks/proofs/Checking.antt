@@ -3,12 +3,11 @@ use mathlib.Core.Path.{◌≡◌, refl, sym, ap, ◌∙◌}
 use mathlib.Core.List.{List, [], ◌∷◌}
 use Prim.Native.Nat.{ℕ, ◌≤◌}
 use lib.ListN.{length}
-use borrow.Author.Tests.{eq-eqb, ne_eqb}
 use Rattle.tables.specs.Verdict.{checks}
 use Rattle.tables.specs.declared.Fault.{Fault}
 use Rattle.tables.specs.declared.Verdict.TheVariants.{the_data as Verdict, Sound, Refused}
 use Rattle.tables.specs.Tree.{most_machines, size_verdict}
-use Rattle.tables.specs.Tables.{Tables, fresh, sized, sizes_verdict}
+use Rattle.tables.specs.Tables.{Tables, fresh, sizes_verdict}
 use Rattle.tables.specs.Batch.{batch_verdict}
 use Rattle.tables.specs.Report.{Bytes}
 use Rattle.tables.specs.Links.{SiteOf}
@@ -32,20 +31,6 @@ module _ {c v : Verdict} (q : c ≡ v) (vs : List Verdict) where
 
 pub ends : {v w : Verdict} → w ≡ v → w ≡ checks (v ∷ [])
 ends q = q ∙ sym (checks_one _)
-
-pub no_more : Sound ≡ checks []
-unfolding checks
-no_more = refl
-
--- a slice that is not as long as up, or is
-module _ (which : ℕ) {size n : ℕ} (vs : List Verdict) where
-  pub slice_off : (size ≡ n → ⊥) → Refused Fault.Slice which ≡ checks (sized which size n ∷ vs)
-  unfolding checks
-  slice_off o = rw (ne_eqb size n o) refl
-
-  pub slice_fits : {w : Verdict} → size ≡ n → w ≡ checks vs → w ≡ checks (sized which size n ∷ vs)
-  unfolding checks
-  slice_fits e p = p ∙ rw (eq-eqb size n e) refl
 
 -- what the lengths tell where they pass
 pub few_machines : {c : Verdict} (n : ℕ) → c ≡ Sound → c ≡ size_verdict n → n ≤ most_machines

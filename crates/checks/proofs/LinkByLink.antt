@@ -2,7 +2,7 @@
 use mathlib.Core.Path.{◌≡◌, refl, sym, ◌∙◌}
 use mathlib.Core.Bool.{Bool, true, false, cond, ◌||◌}
 use mathlib.Core.List.{List, [], ◌∷◌}
-use Prim.Native.Nat.{ℕ, suc, ◌+◌, ◌*◌, ◌<◌, ◌≤◌}
+use Prim.Native.Nat.{ℕ, suc, ◌+◌, ◌*◌, ◌/◌, ◌<◌, ◌≤◌}
 use native.Mathlib.Omega.{arith}
 use native.Mathlib.Numerals.{add-one}
 use lib.ListN.{length, drop}
@@ -28,27 +28,23 @@ link_then n i p l = go (leb n p.0 || leb n p.1) (eqb p.0 p.1) (ends_verdict n (s
 
 -- the links before i pass
 pub record LinksPassed (n : ℕ) (batch : List ℕ) (i : ℕ) : Type 0 where
-  pub low : 2 * i ≤ length batch
   pub rest : ends_verdict n 0 (pairs batch) ≡ ends_verdict n i (pairs (drop (2 * i) batch))
 
-pub passed_none : (n : ℕ) (batch : List ℕ) → LinksPassed n batch 0
-passed_none n batch = record { low = omega arith; rest = refl }
-
 module _ {n : ℕ} {batch : List ℕ} {i : ℕ} (p : LinksPassed n batch i) where
-  link_next : 2 * i + 1 < length batch → ends_verdict n 0 (pairs batch) ≡ checks (ends_verdict n i ((at batch (2 * i), at batch (2 * i + 1)) ∷ []) ∷ ends_verdict n (i + 1) (pairs (drop (2 * (i + 1)) batch)) ∷ [])
+  link_next : i < length batch / 2 → ends_verdict n 0 (pairs batch) ≡ checks (ends_verdict n i ((at batch (2 * i), at batch (2 * i + 1)) ∷ []) ∷ ends_verdict n (i + 1) (pairs (drop (2 * (i + 1)) batch)) ∷ [])
   link_next h =
       let f : 2 * i + 2 ≡ 2 * (i + 1) = omega arith in
-      p.rest ∙ rw (pairs_next batch (2 * i) h, f, add-one i) (link_then n i _ _)
+      p.rest ∙ rw (pairs_next batch (2 * i) (omega arith), f, add-one i) (link_then n i _ _)
 
-  module _ {a b : ℕ} {c : Verdict} (h : 2 * i + 1 < length batch) (e : a ≡ at batch (2 * i)) (f : b ≡ at batch (2 * i + 1)) (g : c ≡ ends_verdict n i ((a, b) ∷ [])) where
+  module _ {a b : ℕ} {c : Verdict} (h : i < length batch / 2) (e : a ≡ at batch (2 * i)) (f : b ≡ at batch (2 * i + 1)) (g : c ≡ ends_verdict n i ((a, b) ∷ [])) where
     -- link i passes
     pub passed_more : c ≡ Sound → LinksPassed n batch (i + 1)
-    passed_more s = record { low = omega arith; rest = link_next h ∙ rw (← e, ← f) (passes (told s g) _ ∙ checks_one _) }
+    passed_more s = record { rest = link_next h ∙ rw (← e, ← f) (passes (told s g) _ ∙ checks_one _) }
 
     -- link i is refused
     pub refused : {why : Fault} {place : ℕ} → c ≡ Refused why place → c ≡ ends_verdict n 0 (pairs batch)
     refused s = rw (link_next h, ← e, ← f) (stops g _ s)
 
-  pub passed_all : length batch ≤ 2 * i + 1 → Sound ≡ ends_verdict n 0 (pairs batch)
+  pub passed_all : length batch / 2 ≤ i → Sound ≡ ends_verdict n 0 (pairs batch)
   unfolding ends_verdict
-  passed_all h = sym (p.rest ∙ rw (pairs_end batch (2 * i) h))
+  passed_all h = sym (p.rest ∙ rw (pairs_end batch (2 * i) (omega arith)))

@@ -1,7 +1,7 @@
 -- The three parts of a tree's verdict. Two searches tell of the hubs: the first finds the hub, the second, behind it, the next one or none. Entries that
 -- are machines and one hub are what the reach check asks; and the verdict is that of the first part that refuses.
 use mathlib.Core.Path.{◌≡◌, refl, sym, ◌∙◌}
-use mathlib.Core.Bool.{true, false, ◌&&◌, and-false}
+use mathlib.Core.Bool.{false, ◌&&◌}
 use mathlib.Core.List.{List, [], ◌∷◌}
 use mathlib.Core.Logic.{◌≢◌}
 use Prim.Native.Nat.{ℕ, ◌+◌, ◌<◌, ◌≤◌}
@@ -9,50 +9,73 @@ use native.Mathlib.Numerals.{add-one}
 use native.Mathlib.Omega.{arith}
 use lib.ListN.{length}
 use lib.Dec.{leb, ltb, eqb, leb-zero}
-use borrow.Author.Tests.{eq-eqb, ne_eqb, le-leb, lt-leb, lt-ltb, le-ltb, leb-false, ltb-true}
+use borrow.Author.Tests.{lt-ltb, le-ltb, leb-false, ltb-true}
+use Rattle.std.specs.Prelude.{Option, Some, None, MatchOption}
+use Rattle.std.specs.Option.{unwrap_or}
+use Rattle.std.proofs.lemmas.Bool.Decides.{nat_tests}
 use Rattle.plain.specs.Search.{least}
+use Rattle.plain.proofs.Least.{least_is, least_has}
 use Rattle.plain.specs.Table.{at}
 use Rattle.tables.specs.Verdict.{checks, refuse_least}
 use Rattle.tables.specs.declared.Fault.{Fault}
 use Rattle.tables.specs.declared.Verdict.TheVariants.{the_data as Verdict, Sound, Refused}
 use Rattle.tables.specs.Tree.{hub, Inside, hubs_verdict, reach_verdict, tree_verdict}
 use Rattle.tables.proofs.Verdicts.{none_refused, all_sound, unless_sound, not_both}
-use Rattle.checks.specs.TreeCheck.{hub_from, ups_verdict, DepthRoom, Climbable, Reached}
+use Rattle.checks.specs.TreeCheck.{below, hub_from, ups_verdict, DepthRoom, Climbable, Reached}
 use Rattle.checks.proofs.Checking.{told, stops, goes_on, ends}
-use Rattle.checks.proofs.Searching.{Searched}
+use Rattle.checks.proofs.Searching.{below_some, below_none}
 
--- the search for a hub not below from begins there
+-- a search for a hub from `from` on: what it found is the least machine, not below `from`, that names itself
 module _ (up : List ℕ) (from : ℕ) where
-  pub seek_start : from ≤ length up → Searched (length up) (λ v. leb from v && eqb (at up v) v) from
-  seek_start h = record { le = h; none = λ k b. rw (lt-leb from k b) refl }
+  other : (k : ℕ) → (from ≤ k → at up k ≢ k) → (leb from k && eqb (at up k) k) ≡ false
+  other k o = grind (arith, nat_tests)
 
-  module _ (v : ℕ) where
-    pub seek_hub : from ≤ v → at up v ≡ v → (leb from v && eqb (at up v) v) ≡ true
-    seek_hub h e = rw (le-leb from v h, eq-eqb (at up v) v e) refl
+  pub found_hub : (r : Option ℕ)
+      → MatchOption r ((k : ℕ) → from ≤ k → k < length up → at up k ≢ k) (λ i. (from ≤ i) × (i < length up) × (at up i ≡ i) × ((k : ℕ) → from ≤ k → k < i → at up k ≢ k))
+      → r ≡ below (length up) (hub_from up from)
+  found_hub (Some i) (low, b, e, none) =
+      let f : hub_from up from ≡ i = least_is (length up) (λ v. leb from v && eqb (at up v) v) i
+      (record { le = omega arith; before = λ k h. other k (λ l. none k l h); here = λ _. grind (arith, nat_tests) }) in
+      rw (f, lt-ltb i (length up) b)
+  found_hub None none =
+      let f : hub_from up from ≡ length up = least_is (length up) (λ v. leb from v && eqb (at up v) v) (length up)
+      (record { le = omega arith; before = λ k h. other k (λ l. none k l h); here = λ b. absurd (omega arith) }) in
+      rw (f, le-ltb (length up) (length up) (omega arith))
 
-    pub seek_other : at up v ≢ v → (leb from v && eqb (at up v) v) ≡ false
-    seek_other o = rw (ne_eqb (at up v) v o) (and-false (leb from v))
+module _ (up : List ℕ) where
+  first_hub : hub_from up 0 ≡ hub up
+  unfolding hub
+  first_hub = simp leb-zero
 
-pub first-hub : (up : List ℕ) {r : ℕ} → r ≡ hub_from up 0 → r ≡ hub up
-unfolding hub
-first-hub up e = e ∙ simp leb-zero
+  hub_found : (a : Option ℕ) → a ≡ below (length up) (hub_from up 0) → unwrap_or a (length up) ≡ hub up
+  unfolding hub
+  hub_found (Some i) q = (below_some q refl).0 ∙ first_hub
+  hub_found None q = omega (arith, below_none q refl, first_hub, (least_has (length up) (λ v. eqb (at up v) v)).le)
 
-module _ (up : List ℕ) {h : ℕ} (e : h ≡ hub up) where
-  pub no_hub : length up ≤ h → Refused Fault.Hubs (length up) ≡ hubs_verdict up
-  unfolding checks
-  no_hub b = rw (le-ltb (hub up) (length up) (omega arith)) refl
+  pub hub_or : {a : Option ℕ} {r : ℕ} → a ≡ below (length up) (hub_from up 0) → r ≡ unwrap_or a (length up) → r ≡ hub up
+  hub_or {a} q e = e ∙ hub_found a q
 
-  module _ {r : ℕ} (b : h < length up) (f : r ≡ hub_from up (h + 1)) where
-    behind : r ≡ least (length up) (λ v. ltb (hub up) v && eqb (at up v) v)
-    behind = f ∙ simp (e, add-one)
+  module _ {a : Option ℕ} (q : a ≡ below (length up) (hub_from up 0)) where
+    pub no_hub : a ≡ None → Refused Fault.Hubs (length up) ≡ hubs_verdict up
+    unfolding checks
+    no_hub e = rw (le-ltb (hub up) (length up) (rw first_hub at (below_none q e))) refl
 
-    pub two_hubs : r < length up → Refused Fault.Hubs r ≡ hubs_verdict up
-    unfolding checks refuse_least
-    two_hubs l = rw (lt-ltb (hub up) (length up) (omega arith), ← behind, lt-ltb r (length up) l) refl
+    module _ {h : ℕ} {b : Option ℕ} (e : a ≡ Some h) (f : b ≡ below (length up) (hub_from up (h + 1))) where
+      behind : hub_from up (h + 1) ≡ least (length up) (λ v. ltb (hub up) v && eqb (at up v) v)
+      behind = simp ((below_some q e).0, first_hub, add-one)
 
-    pub one-hub : length up ≤ r → Sound ≡ hubs_verdict up
-    unfolding checks refuse_least
-    one-hub l = rw (lt-ltb (hub up) (length up) (omega arith), ← behind, le-ltb r (length up) l) refl
+      hub_in : hub up < length up
+      hub_in = let (g, l) = below_some q e in omega (arith, first_hub)
+
+      pub two_hubs : {r : ℕ} → b ≡ Some r → Refused Fault.Hubs r ≡ hubs_verdict up
+      unfolding checks refuse_least
+      two_hubs {r} g =
+          let (i, l) = below_some f g in
+          rw (lt-ltb (hub up) (length up) hub_in, ← behind, ← i, lt-ltb r (length up) l) refl
+
+      pub one_hub : b ≡ None → Sound ≡ hubs_verdict up
+      unfolding checks refuse_least
+      one_hub g = rw (lt-ltb (hub up) (length up) hub_in, ← behind, le-ltb (hub_from up (h + 1)) (length up) (below_none f g)) refl
 
 -- checks of checks are checks one after another
 nested : (a b c : Verdict) → checks (a ∷ b ∷ c ∷ []) ≡ checks (checks (a ∷ b ∷ []) ∷ c ∷ [])

@@ -1,3 +1,4 @@
+pub mod Fit
 pub mod Started
 pub mod TreeCheck
 pub mod RulesCheck

@@ -1,7 +1,6 @@
 -- What the check of the rules asks of its slices.
--- These are the contracts of private functions: the public calls do not cite them, so nothing here has to be believed.
-use Rattle.std.specs.Prelude.{◌≡◌, List, ℕ, ◌<◌, length}
-use Rattle.plain.specs.Table.{at}
+-- This is the invariant of a private struct: the public calls do not cite it, so nothing here has to be believed.
+use Rattle.std.specs.Prelude.{◌≡◌, List, ℕ, length}
 use Rattle.tables.specs.Tree.{hub, Inside}
 
 -- each table has an entry for each machine, each up entry is a machine, and h is the hub
@@ -11,9 +10,3 @@ pub record Sized (up depth group mark : List ℕ) (h : ℕ) : Type 0 where
   pub mark_size : length mark ≡ length up
   pub inside : Inside up
   pub top : h ≡ hub up
-
--- the part of it for one machine v and one table
-pub record Beside (up table : List ℕ) (v : ℕ) : Type 0 where
-  pub size : length table ≡ length up
-  pub low : v < length up
-  pub above : at up v < length up

@@ -1,11 +1,15 @@
 -- What the tree check's parts are to answer, and the table of known depths that they fill.
 -- These are the contracts of private functions: the public calls do not cite them, so nothing here has to be believed.
-use Rattle.std.specs.Prelude.{◌≡◌, ◌&&◌, List, [], ◌∷◌, ℕ, ◌<◌, ◌≤◌, length, leb, eqb}
+use Rattle.std.specs.Prelude.{◌≡◌, ◌&&◌, cond, List, [], ◌∷◌, Option, Some, None, ℕ, ◌<◌, ◌≤◌, length, leb, ltb, eqb}
 use Rattle.plain.specs.Search.{least}
 use Rattle.plain.specs.Table.{at, tabulate}
 use Rattle.tables.specs.Verdict.{checks}
 use Rattle.tables.specs.declared.Verdict.TheVariants.{the_data as Verdict, Sound}
-use Rattle.tables.specs.Tree.{most_machines, climb, hub, Inside, depth_of, entries_verdict, hubs_verdict, tree_verdict}
+use Rattle.tables.specs.Tree.{most_machines, hub, Inside, depth_of, entries_verdict, hubs_verdict, tree_verdict}
+
+-- k, where it is below n
+abbrev pub below : ℕ → ℕ → Option ℕ
+below n k = cond (ltb k n) (Some k) None
 
 -- the least machine, not below from, that names itself; n, if there is none
 abbrev pub hub_from : List ℕ → ℕ → ℕ
@@ -27,11 +31,6 @@ unknown = 65535
 abbrev pub Known : List ℕ → ℕ → Type 0
 Known known x = at known x < unknown
 
--- no depth is in the table
-pub record Blank (known known' : List ℕ) : Type 0 where
-  pub size : length known' ≡ length known
-  pub none : (x : ℕ) → x < length known → at known' x ≡ unknown
-
 -- v reaches the hub, d steps up
 pub record Depth (up : List ℕ) (v d : ℕ) : Type 0 where
   pub right : d ≡ depth_of up v
@@ -46,27 +45,13 @@ pub record Held (up known : List ℕ) : Type 0 where
 -- what a climb from v asks
 pub record Climbing (up known : List ℕ) (v : ℕ) : Type 0 where
   pub inside : Inside up
-  pub size : length known ≡ length up
+  pub held : Held up known
   pub machine : v < length up
-
--- k steps up from v stands x, and no machine before x has a depth in the table
-pub record Climbed (up known : List ℕ) (v k x : ℕ) : Type 0 where
-  pub few : k ≤ length up
-  pub machine : x < length up
-  pub from : x ≡ climb up k v
-  pub before : (j : ℕ) → j < k → ¬ Known known (climb up j v)
-
--- and x has one, or k is n
-pub record Stopped (up known : List ℕ) (v k x : ℕ) : Type 0 where
-  pub way : Climbed up known v k x
-  pub here : k < length up → Known known x
 
 -- what laying the depths from v up asks
 pub record Laying (up known : List ℕ) (v d : ℕ) : Type 0 where
   pub few : length up ≤ most_machines
-  pub inside : Inside up
-  pub machine : v < length up
-  pub held : Held up known
+  pub climbing : Climbing up known v
   pub depth : Depth up v d
 
 -- what it leaves: v has its depth too

@@ -2,17 +2,13 @@
 ghost use Rattle.std.specs.Prelude.{◌≡◌, [], ◌∷◌};
 ghost use Rattle.tables.specs.Batch.{pairs, ends_verdict};
 
-use crate::table::at;
 use tables::{Fault, Verdict};
 
 // Link i joins a and b: both are machines, and differ.
 fn link(n: usize, i: usize, a: usize, b: usize) -> Verdict
     ensures { result ≡ ends_verdict n i ((a, b) ∷ []) }
 {
-    if n <= a {
-        return Verdict::Refused(Fault::End, i);
-    }
-    if n <= b {
+    if n <= a || n <= b {
         return Verdict::Refused(Fault::End, i);
     }
     if a == b {
@@ -25,13 +21,11 @@ fn link(n: usize, i: usize, a: usize, b: usize) -> Verdict
 pub fn ends(n: usize, batch: &[u16]) -> Verdict
     ensures { result ≡ ends_verdict n 0 (pairs batch.now) }
 {
-    let mut i = 0;
-    while 2 * i + 1 < batch.len() {
-        let e = link(n, i, at(batch, 2 * i), at(batch, 2 * i + 1));
+    for i in 0..batch.len() / 2 {
+        let e = link(n, i, batch[2 * i] as usize, batch[2 * i + 1] as usize);
         let Verdict::Sound = e else {
             return e;
         };
-        i += 1;
     }
     Verdict::Sound
 }

@@ -1,5 +1,7 @@
 // What is refused: the checks of each call, in the order of the codes, and the answer to a verdict; the checks of Start also leave the depths that they
 // find. No function that other crates see asks anything of its caller.
+// Kept: each check is taken apart by `let .. else` and handed on, the form that document 01 names ("inner checks answer an enum").
+// Kept: the public calls take up, depth, group and mark one by one, as the site's calls are lent them: their signatures stay.
 #![tactic(auto)]
 
 ghost use Rattle.std.specs.Prelude.{◌≡◌, ◌≤◌, length};
@@ -22,6 +24,7 @@ mod trees;
 
 pub use crate::answers::{answer, refusal};
 pub use crate::lengths::{numbers, size};
+use crate::rules::Tables;
 pub use crate::table::at;
 pub use crate::trees::hub;
 use tables::Verdict;
@@ -33,6 +36,7 @@ pub const MACHINES: usize = 4096;
 pub const LINKS: usize = 1024;
 
 // A tree of not too many machines. The depths that its check finds stay in a local array.
+// Kept: of an array for the most machines, here and in `start`, the front is used: no heap.
 fn shape(up: &[u16]) -> Verdict
     requires { length up.now ≤ most_machines }
     ensures { result ≡ tree_verdict up.now }
@@ -86,8 +90,14 @@ fn tables(up: &[u16], depth: &[u16], group: &[u16], mark: &[u8]) -> Verdict
     let Verdict::Sound = named else {
         return named;
     };
-    let top = trees::hub(up);
-    let kept = rules::check(up, depth, group, mark, top);
+    let site = Tables {
+        up,
+        depth,
+        group,
+        mark,
+        top: trees::hub(up),
+    };
+    let kept = site.check();
     let Verdict::Sound = kept else {
         return stray_first(up, kept);
     };
@@ -103,7 +113,7 @@ fn grow(up: &[u16], known: &mut [u16], depth: &mut [u16]) -> Verdict
     let Verdict::Sound = grown else {
         return grown;
     };
-    table::copy(known, depth);
+    depth.copy_from_slice(known);
     Verdict::Sound
 }
 

@@ -1,26 +1,11 @@
-// Tables of machines, read by index and copied.
-ghost use Rattle.std.specs.Prelude.{◌≡◌, length};
+// Tables of machines, read by index.
+ghost use Rattle.std.specs.Prelude.{◌≡◌};
 ghost use Rattle.plain.specs.Table.{at};
 
 // An entry of a table; 0 past its end.
+// Kept: 0 in place of None is what the definition `at` says, over which the contracts of the calls are stated.
 pub fn at(table: &[u16], i: usize) -> usize
     ensures { result ≡ at table.now i }
 {
-    if i < table.len() {
-        table[i] as usize
-    } else {
-        0
-    }
-}
-
-// `to` becomes `from`.
-pub fn copy(from: &[u16], to: &mut [u16])
-    requires { length to.old ≡ length from.now }
-    ensures { to.new ≡ from.now }
-{
-    let mut v = 0;
-    while v < from.len() {
-        to[v] = from[v];
-        v += 1;
-    }
+    table.get(i).copied().unwrap_or(0) as usize
 }

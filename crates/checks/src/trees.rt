@@ -1,97 +1,69 @@
 // The tree check: every entry a machine, one hub, and every machine reaches it. It leaves the depths behind.
-ghost use Rattle.std.specs.Prelude.{◌≡◌, ◌≤◌, length};
-ghost use Rattle.tables.specs.Tree.{hub, entries_verdict, hubs_verdict, reach_verdict, tree_verdict};
-ghost use Rattle.checks.specs.TreeCheck.{hub_from, ups_verdict, Blank, Climbing, Stopped, Laying, Laid, DepthRoom, Climbable, Reached};
+// Kept: `up` and `known` side by side; of the functions that have both two write `known` and one reads it, so a struct would be made for each.
+ghost use Rattle.std.specs.Prelude.{◌≡◌, ◌<◌, length};
+ghost use Rattle.tables.specs.Tree.{hub, depth_of, entries_verdict, hubs_verdict, reach_verdict, tree_verdict};
+ghost use Rattle.checks.specs.TreeCheck.{below, hub_from, ups_verdict, Climbing, Laying, Laid, DepthRoom, Climbable, Reached};
 
 use tables::{Fault, Verdict};
 
 // Stands for a depth that is not known yet: no machine is so deep.
+// Kept: an entry of a 16-bit table, which `grow` copies into the lent depths as it stands; Options would be turned into numbers one by one.
 const UNKNOWN: u16 = 65535;
-
-// Where a climb stopped, and after how many steps.
-#[derive(Clone, Copy)]
-struct Stop {
-    steps: usize,
-    at: usize,
-}
 
 // Every entry names a machine.
 fn entries(up: &[u16]) -> Verdict
     ensures { result ≡ entries_verdict up.now }
 {
-    let mut v = 0;
-    while v < up.len() {
+    for v in 0..up.len() {
         if up[v] as usize >= up.len() {
             return Verdict::Refused(Fault::Entry, v);
         }
-        v += 1;
     }
     Verdict::Sound
 }
 
-// The least machine, not below `from`, that names itself; the number of machines, if there is none.
-fn hub_from(up: &[u16], from: usize) -> usize
-    requires { from ≤ length up.now }
-    ensures { result ≡ hub_from up.now from }
+// The least machine, not below `from`, that names itself.
+fn hub_from(up: &[u16], from: usize) -> Option<usize>
+    ensures { result ≡ below (length up.now) (hub_from up.now from) }
 {
-    let mut v = from;
-    while v < up.len() {
-        if up[v] as usize == v {
-            return v;
-        }
-        v += 1;
-    }
-    v
+    (from..up.len()).find(|&v| up[v] as usize == v)
 }
 
 // The machine that names itself: the least, if there are several; the number of machines, if there is none.
+// Kept: a number in place of None is what the definition `hub` says, by which callers take this public function.
 pub fn hub(up: &[u16]) -> usize
     ensures { result ≡ hub up.now }
 {
-    hub_from(up, 0)
+    hub_from(up, 0).unwrap_or(up.len())
 }
 
 // There is one hub: a first, and none after it.
 fn hubs(up: &[u16]) -> Verdict
     ensures { result ≡ hubs_verdict up.now }
 {
-    let first = hub(up);
-    if first >= up.len() {
+    let Some(first) = hub_from(up, 0) else {
         return Verdict::Refused(Fault::Hubs, up.len());
-    }
-    let second = hub_from(up, first + 1);
-    if second < up.len() {
-        return Verdict::Refused(Fault::Hubs, second);
-    }
-    Verdict::Sound
-}
-
-// No depth is known.
-fn blank(known: &mut [u16])
-    ensures { Blank known.old known.new }
-{
-    let mut v = 0;
-    while v < known.len() {
-        known[v] = UNKNOWN;
-        v += 1;
+    };
+    match hub_from(up, first + 1) {
+        Some(second) => Verdict::Refused(Fault::Hubs, second),
+        None => Verdict::Sound,
     }
 }
 
-// The climb from `v` to the first machine of known depth, given up after as many steps as there are machines.
-fn until(up: &[u16], known: &[u16], v: usize) -> Stop
+// The depth of `v`, by a climb to the first machine whose depth is known. There is none where the climb meets no such machine in as many steps
+// as there are machines: then it never reaches the hub.
+fn depth_of(up: &[u16], known: &[u16], v: usize) -> Option<usize>
     requires { Climbing up.now known.now v }
-    ensures { Stopped up.now known.now v result.steps result.at }
+    ensures { result ≡ below (length up.now) (depth_of up.now v) }
 {
-    let mut k = 0;
     let mut x = v;
-    while k < up.len() {
+    for steps in 0..up.len() {
         if known[x] < UNKNOWN {
-            return Stop { steps: k, at: x };
+            return Some(steps + known[x] as usize);
         }
         x = up[x] as usize;
-        k += 1;
     }
-    Stop { steps: k, at: x }
+    None
 }
 
 // Writes the depth of `v`, and those of the machines on its way up to the first that is known. No machine is written twice, so the
@@ -102,6 +74,8 @@ fn lay(up: &[u16], known: &mut [u16], v: usize, depth: usize)
 {
     let mut x = v;
     let mut d = depth;
+    // Kept: a walk that ends at the first known machine; a `for` over the depths would need that test as well. The next machine is read before
+    // this one's depth is written (docs/DECISIONS.md).
     while known[x] >= UNKNOWN {
         let p = up[x] as usize;
         known[x] = d as u16;
@@ -115,20 +89,14 @@ fn reach(up: &[u16], known: &mut [u16]) -> Verdict
     requires { Climbable up.now known.old }
     ensures { Reached (reach_verdict up.now) up.now known.new result }
 {
-    blank(known);
+    known.fill(UNKNOWN);
     let top = hub(up);
     known[top] = 0;
-    let mut v = 0;
-    while v < up.len() {
-        let stop = until(up, known, v);
-        let steps = stop.steps;
-        let at = stop.at;
-        if steps >= up.len() {
+    for v in 0..up.len() {
+        let Some(depth) = depth_of(up, known, v) else {
             return Verdict::Refused(Fault::Stray, v);
-        }
-        let depth = steps + known[at] as usize;
+        };
         lay(up, known, v, depth);
-        v += 1;
     }
     Verdict::Sound
 }

@@ -1,30 +1,13 @@
 // chokes: a site file on standard input, its chokes on standard output.
 #![tactic(auto)]
 
-use site::Site;
 use std::io;
+use turns::Desk;
 
+// Kept: a buffer for a byte more than a file may have, of which the front is used: no heap (docs/DECISIONS.md).
 fn main(rt: HostRuntime) -> io::Result<()> {
     let mut file = [0u8; turns::MOST_BYTES + 1];
-    let mut up = [0u16; Site::MACHINES];
-    let mut depth = [0u16; Site::MACHINES];
-    let mut group = [0u16; Site::MACHINES];
-    let mut mark = [0u8; Site::MACHINES];
-    let mut batch = [0u16; 2 * Site::LINKS];
-    let mut machines = [0u8; Site::MACHINES];
-    let mut links = [0u8; Site::MACHINES];
-    let mut text = [0u8; text::MOST_TEXT];
+    let mut desk = Desk::new();
     let k = intake::read_full(&mut rt.reader(), &mut file)?;
-    printer::print_file(
-        &rt,
-        &file[..k],
-        &mut up,
-        &mut depth,
-        &mut group,
-        &mut mark,
-        &mut batch,
-        &mut machines,
-        &mut links,
-        &mut text,
-    )
+    printer::print_file(&rt, &file[..k], &mut desk)
 }

@@ -17,6 +17,7 @@ pub fn read_full<R: Read>(from: &mut R, to: &mut [u8]) -> io::Result<usize>
     ensures kept { OnErr result ((n : ℕ) × (n ≤ length to.new) × Consumes (R.remaining from.old) (R.remaining from.new) (take n to.new)) }
 {
     let mut done = 0;
+    // Kept: `read_exact` doesn't tell how far it came where the stream ends early, and `read_to_end` needs a heap (a rule: fixed memory).
     while done < to.len() {
         let n = from.read(&mut to[done..])?;
         if n == 0 {

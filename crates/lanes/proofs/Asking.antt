@@ -1,25 +1,22 @@
 -- What a ring that reaches depth l asks of a machine at depth d, by cases; and an entry lowered, or a mark lifted, by one store.
-use mathlib.Core.Path.{◌≡◌, sym, ap}
-use mathlib.Core.List.{List}
+use mathlib.Core.Path.{◌≡◌, sym}
 use mathlib.Core.Logic.{◌≢◌, dite}
-use Prim.Native.Nat.{ℕ, suc, ◌-◌, ◌<◌, ◌≤◌, max, min}
+use Prim.Native.Nat.{ℕ, suc, ◌-◌, ◌<◌, ◌≤◌, min}
 use native.Mathlib.Decide.{ℕ_discrete, dec_le}
 use native.Mathlib.Omega.{arith}
-use lib.ListN.{set}
 use borrow.Author.Tests.{eq-eqb, ne_eqb, le-leb, lt-leb}
-use Rattle.plain.specs.Table.{at}
-use Rattle.lanes.specs.Low.{asked, lowered, Lifted}
+use Rattle.lanes.specs.Low.{asked}
 
 module _ {l d : ℕ} where
   pub ask_none : d ≤ l → 0 ≡ asked l d
   unfolding asked
   ask_none h = rw (le-leb d l h)
 
-  pub ask_one : l < d → d - l ≡ 1 → 1 ≡ asked l d
+  ask_one : l < d → d - l ≡ 1 → 1 ≡ asked l d
   unfolding asked
   ask_one h e = rw (lt-leb d l h, eq-eqb (d - l) 1 e)
 
-  pub ask_two : l < d → d - l ≢ 1 → 2 ≡ asked l d
+  ask_two : l < d → d - l ≢ 1 → 2 ≡ asked l d
   unfolding asked
   ask_two h o = rw (lt-leb d l h, ne_eqb (d - l) 1 o)
 
@@ -33,6 +30,15 @@ pub asked_is : (l d : ℕ) → Asked l d (asked l d)
 asked_is l d = dite (dec_le d l) (λ h. nothing h (sym (ask_none h))) λ o. dite (ℕ_discrete (d - l) 1)
     (λ e. ringed (omega arith) (sym (ask_one (omega arith) e)))
     (λ p. carried (omega arith) (sym (ask_two (omega arith) p)))
+
+-- by one difference, at most 2
+pub ask_by : (l d : ℕ) {a b : ℕ} → a ≡ d - l → b ≡ min a 2 → b ≡ asked l d
+ask_by l d {a} {b} p q = go (asked_is l d)
+  where
+    go : {r : ℕ} → Asked l d r → b ≡ r
+    go (nothing h e) = omega (arith, p, q)
+    go (ringed h e) = omega (arith, p, q)
+    go (carried h e) = omega (arith, p, q)
 
 -- a ring that reaches higher asks no less
 pub asked_more : {l m d r s : ℕ} → l ≤ m → Asked l d r → Asked m d s → s ≤ r
@@ -54,9 +60,3 @@ asked_two l d = go (asked_is l d)
     go (nothing h e) = omega arith
     go (ringed h e) = omega arith
     go (carried h e) = omega arith
-
-pub lowered_by : (low : List ℕ) (v z : ℕ) {m : ℕ} → m ≡ min (at low v) z → set low v m ≡ lowered low v z
-lowered_by low v z e = ap (set low v) e
-
-pub lifted_by : (mark : List ℕ) (v k : ℕ) {h : ℕ} → h ≡ max (at mark v) k → Lifted mark (set mark v h) v k (h - at mark v)
-lifted_by mark v k e = record { marks = ap (set mark v) e; is = ap (λ h. h - at mark v) e }

@@ -1,75 +1,80 @@
 -- A batch hung link by link: the groups are joined as the links say, and each end knows the least depth that its rings reach.
-use mathlib.Core.Path.{◌≡◌, refl, sym, ap, ◌∙◌}
+use mathlib.Core.Path.{◌≡◌, refl, ap, ◌∙◌}
 use mathlib.Core.List.{List}
 use mathlib.Core.Logic.{◌⊎◌, inl, inr, ⊎_elim, ⊎_map, dite}
-use Prim.Native.Nat.{ℕ, ◌+◌, ◌*◌, ◌<◌, ◌≤◌, min}
+use Prim.Native.Nat.{ℕ, ◌+◌, ◌*◌, ◌/◌, ◌<◌, ◌≤◌, min}
 use native.Mathlib.Decide.{ℕ_discrete, dec_le}
 use native.Mathlib.Numerals.{add-one}
 use native.Mathlib.Omega.{arith}
 use lib.ListN.{length, length-set}
 use lib.Dec.{eqb}
-use borrow.Author.Tests.{eqb-false}
+use borrow.Author.Tests.{eq-eqb, ne_eqb}
+use Rattle.std.specs.Prelude.{Option, None, Some}
 use Rattle.plain.specs.Table.{at}
 use Rattle.plain.proofs.Says.{by_cases}
-use Rattle.rings.specs.Tree.{Under}
 use Rattle.rings.proofs.Under.{in_tree}
-use Rattle.tables.specs.Tree.{depth_of}
-use Rattle.tables.specs.AsTree.{tree_of}
-use Rattle.tables.specs.Link.{meet, grouped}
-use Rattle.tables.specs.Batch.{most_links, pairs}
+use Rattle.tables.specs.Tree.{most_machines, depth_of}
+use Rattle.tables.specs.Link.{meet, joined, grouped}
+use Rattle.tables.specs.Batch.{pairs}
 use Rattle.tables.proofs.Sound.{rooted}
 use Rattle.tables.proofs.Lines.{meets}
 use Rattle.tables.specs.Links.{Good}
 use Rattle.tables.proofs.Reading.{depth_size, depth_at}
-use Rattle.lanes.proofs.Linking.{last_test, last_below, last_in}
-use Rattle.lanes.proofs.Numbers.{even, in_pairs, link_good}
+use Rattle.lanes.proofs.Grown.{Grown}
+use Rattle.lanes.proofs.Linking.{other, below_one}
+use Rattle.lanes.proofs.Numbers.{in_pairs, link_good}
 use Rattle.lanes.specs.Lane.{MetAt}
-use Rattle.lanes.specs.Forest.{Unitable, joined_below, UnitedBelow}
+use Rattle.lanes.specs.Forest.{United}
 use Rattle.lanes.specs.Low.{lowered}
 use Rattle.lanes.specs.Hung.{Hangable, Hung, one, two, reached, groupings, Source, Lows, Batched, Hanging, HungAll}
 use Rattle.plain.proofs.Putting.{Put, here, there, put}
 
 -- the link from a to b, whose lines meet at w, with arms that end at c and d
-module _ {up depth top kid group low : List ℕ} {a b w c d : ℕ} (h : Hangable up depth top kid group low a b) (m : MetAt up a b w c d) where
-  over_both : Under (tree_of up) w a × Under (tree_of up) w b
-  over_both = let k = meets h.hops.ends.tree h.hops.ends.one h.hops.ends.two in rw m.meets (k.left, k.right)
-
+module _ {up depth top kid group low : List ℕ} {a b w : ℕ} {c d : Option ℕ} (t : Grown up depth) (h : Hangable up top kid group low a b) (m : MetAt up a b w c d) where
   w_in : w < length up
-  w_in = in_tree (rooted h.hops.ends.tree) over_both.0 h.hops.ends.one
+  w_in = rw m.meets (in_tree (rooted t.tree) (meets t.tree h.hops.one h.hops.two).left h.hops.one)
 
   pub depth_in : w < length depth
-  depth_in = rw (depth_size up h.hops.ends.depths) w_in
+  depth_in = rw (depth_size up t.depths) w_in
 
-  pub unite_ready : Unitable group c d
-  unite_ready = record {
-    few = rw h.groups h.few;
-    down = h.down;
-    one = rw h.groups (last_in h.hops.ends.tree h.hops.ends.one over_both.0 m.left);
-    two = rw h.groups (last_in h.hops.ends.tree h.hops.ends.two over_both.1 m.right);
-  }
+  pub w_few : w < most_machines
+  w_few = omega (arith, w_in, t.few)
 
-  -- the groups below w are those that the link joins
-  below : (flat : List ℕ) → joined_below w c d flat ≡ grouped up a b flat
+  -- both ends are told of w
+  told : {low₁ low₂ : List ℕ} → low₁ ≡ lowered low a (at depth w) → low₂ ≡ lowered low₁ b (at depth w)
+      → low₂ ≡ lowered (lowered low a (depth_of up (meet up a b))) b (depth_of up (meet up a b))
+  told e₁ e₂ =
+      let z : at depth w ≡ depth_of up (meet up a b) = depth_at up t.depths w w_in ∙ ap (depth_of up) m.meets in
+      e₂ ∙ ap (λ l. lowered l b (at depth w)) e₁ ∙ ap (λ z. lowered (lowered low a z) b z) z
+
+  -- where an arm is empty no groups are joined
+  same : (a ≡ w) ⊎ (b ≡ w) → (flat : List ℕ) → flat ≡ grouped up a b flat
   unfolding grouped
-  below flat =
-      let e = h.hops.ends in
-      rw (← m.meets, last_test e.tree e.one over_both.0 m.left, last_test e.tree e.two over_both.1 m.right)
-      (by_cases (eqb a w) (λ f. rw f) (λ f. by_cases (eqb b w) (λ g. rw (f, g)) (λ g. rw (
-        f,
-        g,
-        last_below e.tree e.one over_both.0 m.left (eqb-false a w f),
-        last_below e.tree e.two over_both.1 m.right (eqb-false b w g),
-      ))))
+  same o flat = rw (← m.meets) (⊎_elim
+      (λ (e : a ≡ w). rw (eq-eqb a w e) refl)
+      (λ (e : b ≡ w). by_cases (eqb a w) (λ f. rw f refl) (λ f. rw (f, eq-eqb b w e) refl))
+      o)
 
-  pub hung : {low₁ low₂ group' : List ℕ} → low₁ ≡ lowered low a (at depth w) → low₂ ≡ lowered low₁ b (at depth w) → UnitedBelow group group' w c d
-      → Hung up group group' low low₂ a b
-  hung {low₁} {low₂} e₁ e₂ u = record {
-    down = u.down;
-    joins = λ flat f. rw (← below flat) (u.joins flat f);
-    lows =
-        let z : at depth w ≡ depth_of up (meet up a b) = depth_at up h.hops.ends.depths w w_in ∙ ap (depth_of up) m.meets in
-        e₂ ∙ ap (λ l. lowered l b (at depth w)) e₁ ∙ ap (λ z. lowered (lowered low a z) b z) z;
-  }
+  -- and else those of the children of w
+  below : {x y : ℕ} → c ≡ Some x → d ≡ Some y → (flat : List ℕ) → joined x y flat ≡ grouped up a b flat
+  unfolding grouped
+  below e f flat =
+      let s = t.tree in
+      let (r, u) = rw e at m.left in
+      let (q, v) = rw f at m.right in
+      let h₁ = h.hops.one in
+      let h₂ = h.hops.two in
+      rw (← m.meets, ne_eqb a w (other s h₁ r u), ne_eqb b w (other s h₂ q v), below_one s h₁ r u, below_one s h₂ q v) refl
+
+  module _ {low₁ low₂ : List ℕ} (e₁ : low₁ ≡ lowered low a (at depth w)) (e₂ : low₂ ≡ lowered low₁ b (at depth w)) where
+    pub hung_left : c ≡ None → Hung up group group low low₂ a b
+    hung_left e = record { down = h.down; joins = λ flat f. rw (← same (inl (rw e at m.left)) flat) f; lows = told e₁ e₂ }
+
+    pub hung_right : d ≡ None → Hung up group group low low₂ a b
+    hung_right e = record { down = h.down; joins = λ flat f. rw (← same (inr (rw e at m.right)) flat) f; lows = told e₁ e₂ }
+
+    pub hung_both : {x y : ℕ} {group' : List ℕ} → c ≡ Some x → d ≡ Some y → United group group' x y → Hung up group group' low low₂ a b
+    hung_both e f u = record { down = u.down; joins = λ flat k. rw (← below e f flat) (u.joins flat k); lows = told e₁ e₂ }
 
 -- an entry after one was lowered to z
 record Lower (l : List ℕ) (v z u r : ℕ) : Type 0 where
@@ -132,7 +137,7 @@ module _ {up batch low : List ℕ} {i : ℕ} (l : Lows up batch i low) (h : one 
     source = source;
   }
 
-module _ {up depth top kid group₀ low₀ batch : List ℕ} (r : Batched up depth top kid group₀ low₀ batch) where
+module _ {up top kid group₀ low₀ batch : List ℕ} (r : Batched up top kid group₀ low₀ batch) where
   all_pairs : length batch ≡ 2 * length (pairs batch)
   all_pairs = in_pairs (length up) batch r.accepted
 
@@ -152,33 +157,21 @@ module _ {up depth top kid group₀ low₀ batch : List ℕ} (r : Batched up dep
   }
 
   module _ {group low : List ℕ} {i : ℕ} (p : Hanging up batch group₀ group low i) where
-    pub same_lows : length low ≡ length low₀
-    same_lows = p.lows.size ∙ sym r.lows
-
-    pub few_links : i ≤ most_links
-    few_links = omega (arith, p.far, (even (length up) batch r.accepted).1)
-
-    pub end : length batch ≤ 2 * i → HungAll up batch group₀ group low
+    pub end : length batch / 2 ≤ i → HungAll up batch group₀ group low
     end h = let e : i ≡ length (pairs batch) = omega (arith, p.far, all_pairs) in rw e at p
 
-    module _ (g : 2 * i < length batch) where
-      -- the second number of the link is there too
-      pub second_in : 2 * i + 1 < length batch
-      second_in = omega (arith, all_pairs)
-
+    module _ (g : i < length batch / 2) where
       good : Good (length up) (one batch i, two batch i)
       good = link_good (length up) batch r.accepted i (omega (arith, all_pairs))
 
       module _ {a b : ℕ} (ea : a ≡ one batch i) (eb : b ≡ two batch i) where
-        pub link_ready : Hangable up depth top kid group low a b
+        pub link_ready : Hangable up top kid group low a b
         link_ready = record {
-          few = r.few;
           hops = record {
-            ends = record { tree = r.tree; depths = r.depths; one = rw ea good.one; two = rw eb good.two };
-            tops = r.tops;
-            kids = r.kids;
-            left = rw ea (r.laned (2 * i) g);
-            right = rw eb (r.laned (2 * i + 1) second_in);
+            one = rw ea good.one;
+            two = rw eb good.two;
+            left = rw ea (r.laned (2 * i) (omega arith));
+            right = rw eb (r.laned (2 * i + 1) (omega arith));
           };
           groups = p.groups;
           down = p.down;
@@ -190,7 +183,7 @@ module _ {up depth top kid group₀ low₀ batch : List ℕ} (r : Batched up dep
         next k eg =
             let k' : Hung up group _ low _ (one batch i) (two batch i) = rw (ea, eb) at k in
             record {
-              far = omega (arith, second_in);
+              far = omega arith;
               groups = eg ∙ p.groups;
               down = k'.down;
               forest = rw add-one (k'.joins (groupings up batch i group₀) p.forest);

@@ -1,7 +1,10 @@
+pub mod Grown
 pub mod Numbers
 pub mod Seeing
 pub mod Listing
+pub mod Stepping
 pub mod Walking
+pub mod ByItself
 pub mod Laying
 pub mod InLanes
 pub mod Hopping

@@ -10,36 +10,13 @@ use lib.Seq.{get_or-set_other}
 use Rattle.plain.specs.Table.{at}
 use Rattle.plain.proofs.Putting.{Put, here, there, put}
 use Rattle.lanes.specs.Seen.{none}
-use Rattle.lanes.specs.Depths.{Listed, Lists, Listing, Listable, ListableAt}
-
-pub start : {depth low head next : List ℕ} → Listable depth low head next → Listing depth low 0 head next
-start r = record {
-  lists = record {
-    far = omega arith;
-    heads = r.heads;
-    nexts = r.nexts;
-    first = λ v h. absurd (omega arith);
-    more = λ u v g h. absurd (omega arith);
-    head_on = λ k v e. absurd (omega (arith, r.empty k));
-    next_on = λ u v h. absurd (omega arith);
-  };
-  seen = λ v h. absurd (omega arith);
-  only = λ v h. absurd (omega arith);
-  rest = λ v _ h. r.free v h;
-}
-
-pub end : {depth low head next : List ℕ} {i : ℕ} → Listing depth low i head next → length depth ≤ i → Listing depth low (length depth) head next
-end {depth} {i = i} l h = let e : i ≡ length depth = omega (arith, l.lists.far) in rw e at l
+use Rattle.lanes.specs.Depths.{Listed, Lists, Listing, ListableAt}
 
 -- an entry of a list is past no machine that is not there yet
 few_on : {n i : ℕ} {d : ℕ → ℕ} {head next : List ℕ} → Lists n d i head next → (k : ℕ) → at head k ≤ i
 few_on {head = head} l k = dite (dec_lt 0 (at head k))
     (λ b. let q : at head k ≡ suc (at head k - 1) = omega arith in omega (arith, (l.head_on k (at head k - 1) q).0))
     (λ b. omega arith)
-
-pub list_ready : {depth low head₀ next₀ head next : List ℕ} {i : ℕ} → Listable depth low head₀ next₀ → Listing depth low i head next → i < length depth
-    → ListableAt depth low head next i
-list_ready r l h = record { sorted = r.sorted; here = h; listing = l }
 
 module _ {depth low head next : List ℕ} {i : ℕ} (r : ListableAt depth low head next i) where
   l : Lists (length depth) (at depth) i head next
@@ -48,7 +25,7 @@ module _ {depth low head next : List ℕ} {i : ℕ} (r : ListableAt depth low he
   free : at next i ≡ none
   free = r.listing.rest i (omega arith) r.here
 
-  pub head_in : {d : ℕ} → d ≡ at depth i → d < length head
+  head_in : {d : ℕ} → d ≡ at depth i → d < length head
   head_in e = rw (l.heads, e) (r.sorted.inside i r.here)
 
   -- whoever is listed is not i

@@ -9,33 +9,35 @@ use lib.ListN.{length, take, replicate, length-replicate, get_or-replicate}
 use lib.Seq.{length-take-le, get_or-take}
 use Rattle.plain.specs.Table.{at}
 use Rattle.graph.specs.Walk.{Relation}
-use Rattle.tables.specs.Tree.{most_machines, depth_of}
+use Rattle.tables.specs.declared.Verdict.TheVariants.{Sound}
+use Rattle.tables.specs.Tree.{most_machines, depth_of, tree_verdict}
 use Rattle.tables.specs.Tables.{Tables}
 use Rattle.tables.specs.Batch.{pairs}
-use Rattle.tables.proofs.Sound.{soon, rooted}
+use Rattle.tables.proofs.Sound.{soon, rooted, trees_exact}
 use Rattle.tables.proofs.Told.{Told, group_name}
 use Rattle.lanes.specs.Seen.{none, Seen, SeenTo}
 use Rattle.lanes.specs.Depths.{Listed, Lists, Listing, Listable}
 use Rattle.lanes.specs.Laying.{LanesTo}
-use Rattle.lanes.specs.Forest.{Forest, Flattened}
+use Rattle.lanes.specs.Forest.{Forest}
 use Rattle.lanes.specs.Low.{Sweepable}
-use Rattle.lanes.specs.Hung.{groupings, Source, Batched, HungAll}
-use Rattle.lanes.specs.Whole.{Named, Applicable, Bare, Looked, Joined, Prepared}
+use Rattle.lanes.specs.Hung.{Source, Batched}
+use Rattle.lanes.specs.Whole.{Named, Applicable, Bare, Looked, Joined}
 use Rattle.tables.proofs.Reading.{depth_size, depth_at}
+use Rattle.lanes.proofs.Grown.{Grown, grounded}
 use Rattle.lanes.proofs.Numbers.{in_pairs, number_in}
 use Rattle.lanes.proofs.Listing.{lists_by}
 use Rattle.lanes.proofs.Laying.{laned}
 
-module _ {up depth batch low head next : List ℕ} (b : Bare up depth batch low head next) {low' : List ℕ} {count : ℕ}
+module _ {up depth batch low head next : List ℕ} (t : Grown up depth) (b : Bare up batch low head next) {low' : List ℕ} {count : ℕ}
     (s : SeenTo up batch low' count (length batch)) where
   depths : length depth ≡ length up
-  depths = depth_size up b.look.depths
+  depths = depth_size up t.depths
 
   pub lists_ready : Listable depth low' head next
   lists_ready = record {
     sorted = record {
-      few = rw depths b.look.few;
-      inside = λ v h. let k : v < length up = rw depths at h in rw (depths, depth_at up b.look.depths v k) (soon b.look.tree v k);
+      few = rw depths t.few;
+      inside = λ v h. let k : v < length up = rw depths at h in rw (depths, depth_at up t.depths v k) (soon t.tree v k);
       lows = s.fresh.size ∙ sym depths;
     };
     heads = rw depths b.heads;
@@ -53,66 +55,25 @@ module _ {up depth batch low head next : List ℕ} (b : Bare up depth batch low 
 
     -- the lists by the table are the lists by depth
     by_depth : Lists (length up) (depth_of up) (length up) head' next'
-    by_depth = lists_by (depth_at up b.look.depths) (rw depths at l.lists)
+    by_depth = lists_by (depth_at up t.depths) (rw depths at l.lists)
 
     pub looked : Looked up batch low' head' next' count
     looked = record {
       ground = record {
-        few = b.look.few;
-        tree = b.look.tree;
         lists = by_depth;
-        upward = λ {v} {w} r p. to_list w ((rooted b.look.tree).low r) (s.fresh.upward r (from_list v r.low p));
+        upward = λ {v} {w} r p. to_list w ((rooted t.tree).low r) (s.fresh.upward r (from_list v r.low p));
       };
       levels = record { high = s.high; level = λ v h p. s.level v h (from_list v h p) };
       ends = λ j h. to_list (at batch j) (number_in (length up) batch b.look.accepted j h) (s.ends j h);
       lows = s.fresh.size;
       fresh = λ v h. dite (ℕ_discrete (at low' v) none)
-          (λ e. omega (arith, soon b.look.tree v h, b.look.few))
+          (λ e. omega (arith, soon t.tree v h, t.few))
           (λ o. omega (arith, s.fresh.own v h o));
     }
 
 -- names are a forest, whose trees have one level
 named_forest : {group : List ℕ} → Named group → Forest group group
 named_forest n = record { size = refl; down = n.down; same = n.self; own = λ x h e. e }
-
-pub joined : {up group batch group₁ group₂ low : List ℕ} → HungAll up batch group group₁ low → Flattened group₁ group₂ → Joined up group batch group₂ low
-joined {up} {group} {batch} n f = record { names = f (groupings up batch (length (pairs batch)) group) n.forest; lows = n.lows }
-
-module _ {up depth group mark batch low₀ head₀ next₀ kid₀ top₀ : List ℕ} (p : Prepared up depth group mark batch low₀ head₀ next₀ kid₀ top₀)
-    {low head next : List ℕ} {count : ℕ} (k : Looked up batch low head next count) where
-  pub join_ready : {kid top : List ℕ} → length kid ≡ length kid₀ → LanesTo up next kid top count → Batched up depth top kid group low batch
-  join_ready e l = let r = p.given in record {
-    few = r.few;
-    tree = r.tree;
-    depths = r.depths;
-    tops = l.tops;
-    kids = e ∙ p.kids;
-    laned = λ j h. laned k.ground k.levels l (at batch j) (number_in (length up) batch r.batch j h) (k.ends j h);
-    groups = r.group_size;
-    forest = named_forest r.named;
-    lows = k.lows;
-    fresh = k.fresh;
-    accepted = r.batch;
-  }
-
-  -- whoever is on no list is no end, so it knows of no ring
-  pub sweep_ready : {group' low' : List ℕ} → Joined up group batch group' low' → Sweepable up head next low' mark count
-  sweep_ready {low' = low'} j = record {
-    walk = record { ground = k.ground; levels = k.levels; ones = j.lows.size; twos = p.given.mark_size };
-    unlisted = λ v h e. ⊎_elim (λ d. d) (λ (q : Source up batch (length (pairs batch)) v (at low' v)). absurd (no_end e q)) (j.lows.source v h);
-  }
-    where
-      no_end : {v z : ℕ} → at next v ≡ none → ¬ Source up batch (length (pairs batch)) v z
-      no_end {v} e q = ⊎_elim
-          (λ c. k.ends _ (omega (arith, q.before, in_pairs (length up) batch p.given.batch)) (rw c at e))
-          (λ c. k.ends _ (omega (arith, q.before, in_pairs (length up) batch p.given.batch)) (rw c at e))
-          q.end
-
-zeros : (n m k : ℕ) → at (take n (replicate m 0)) k ≡ 0
-zeros zero m k = refl
-zeros (suc n) zero k = refl
-zeros (suc n) (suc m) zero = refl
-zeros (suc n) (suc m) (suc k) = zeros n m k
 
 -- the front of a local array that was filled with x
 abbrev front : ℕ → List ℕ → List ℕ
@@ -124,16 +85,17 @@ front_size x up h = length-take-le _ _ (rw (length-replicate 4096 x) h)
 front_at : (x : ℕ) (up : List ℕ) → length up ≤ most_machines → (v : ℕ) → v < length up → at (front x up) v ≡ x
 front_at x up h v b = get_or-take (length up) (replicate 4096 x) v 0 b ∙ get_or-replicate 4096 v x 0 (omega arith)
 
--- the local tables at first
-pub prepared : {up depth group mark batch : List ℕ} → Applicable up depth group mark batch
-    → Prepared up depth group mark batch (front none up) (front 0 up) (front none up) (front 0 up) (front 0 up)
-prepared {up} r = record {
-  given = r;
+zeros : (n m k : ℕ) → at (take n (replicate m 0)) k ≡ 0
+zeros zero m k = refl
+zeros (suc n) zero k = refl
+zeros (suc n) (suc m) zero = refl
+zeros (suc n) (suc m) (suc k) = zeros n m k
+
+module _ {up depth group mark batch : List ℕ} (r : Applicable up depth group mark batch) where
+  -- at first the local tables are blank
+  pub bare : Bare up batch (front none up) (front 0 up) (front none up)
   bare = record {
     look = record {
-      few = r.few;
-      tree = r.tree;
-      depths = r.depths;
       size = front_size none up r.few;
       blank = front_at none up r.few;
       accepted = r.batch;
@@ -142,10 +104,34 @@ prepared {up} r = record {
     nexts = front_size none up r.few;
     empty = zeros (length up) 4096;
     free = front_at none up r.few;
-  };
-  kids = front_size 0 up r.few;
-  tops = front_size 0 up r.few;
-}
+  }
+
+  pub tree_accepted : tree_verdict up ≡ Sound
+  tree_accepted = (trees_exact.sound up).1 r.tree
+
+  module _ {low head next : List ℕ} {count : ℕ} (k : Looked up batch low head next count) where
+    pub join_ready : {kid top : List ℕ} → LanesTo up next kid top count → Batched up top kid group low batch
+    join_ready l = record {
+      laned = λ j h. laned (grounded r.few r.tree k.ground) k.levels l (at batch j) (number_in (length up) batch r.batch j h) (k.ends j h);
+      groups = r.group_size;
+      forest = named_forest r.named;
+      lows = k.lows;
+      fresh = k.fresh;
+      accepted = r.batch;
+    }
+
+    -- whoever is on no list is no end, so it knows of no ring
+    pub sweep_ready : {group' low' : List ℕ} → Joined up group batch group' low' → Sweepable up next low' mark
+    sweep_ready {low' = low'} j = record {
+      walk = record { ones = j.lows.size; twos = r.mark_size };
+      unlisted = λ v h e. ⊎_elim (λ d. d) (λ (q : Source up batch (length (pairs batch)) v (at low' v)). absurd (no_end e q)) (j.lows.source v h);
+    }
+      where
+        no_end : {v z : ℕ} → at next v ≡ none → ¬ Source up batch (length (pairs batch)) v z
+        no_end {v} e q = ⊎_elim
+            (λ c. k.ends _ (omega (arith, q.before, in_pairs (length up) batch r.batch)) (rw c at e))
+            (λ c. k.ends _ (omega (arith, q.before, in_pairs (length up) batch r.batch)) (rw c at e))
+            q.end
 
 -- tables of links that stand name their groups: so whoever checked the rules may call
 pub told_named : {up : List ℕ} {L : Relation} {t : Tables} → Told up L t → Named t.group

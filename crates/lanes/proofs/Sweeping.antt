@@ -14,20 +14,16 @@ use Rattle.rings.specs.Tree.{Under}
 use Rattle.rings.proofs.Under.{uplinked}
 use Rattle.tables.specs.Tree.{hub, depth_of}
 use Rattle.tables.specs.AsTree.{tree_of}
-use Rattle.lanes.specs.Laying.{Ground}
 use Rattle.tables.proofs.Sound.{rooted}
 use Rattle.tables.proofs.Lines.{up_over}
 use Rattle.lanes.specs.Seen.{none}
 use Rattle.lanes.specs.Depths.{Listed, OnList}
-use Rattle.lanes.specs.Low.{asked, lowered, Lifted, Handed, Known, Passed, Sweeping}
+use Rattle.lanes.specs.Low.{asked, Handed, Known, Passed, Sweeping}
+use Rattle.lanes.proofs.Grown.{Grounded}
 use Rattle.lanes.proofs.Walking.{none_past, here_in, here_listed, here_depth, less, past_more, past_still}
 use Rattle.plain.proofs.Putting.{Put, here, there, put}
 
-pub handed_by : {up low low' mark mark' : List ℕ} {v k p a s : ℕ} → p ≡ at up v → low' ≡ lowered low p (at low v) → a ≡ asked (at low v) k
-    → Lifted mark mark' v a s → Handed up low low' mark mark' v k s
-handed_by ep el ea n = record { lows = rw ep at el; lifted = rw ea at n }
-
-module _ {up head next : List ℕ} (g : Ground up head next) {low₀ mark₀ low mark : List ℕ} {k rise : ℕ} where
+module _ {up head next : List ℕ} (g : Grounded up head next) {low₀ mark₀ low mark : List ℕ} {k rise : ℕ} where
   -- at a list's end the next list is one higher
   module _ (i : Sweeping up next low₀ mark₀ low mark (k + 1) 0 rise) where
     back : {v : ℕ} → v < length up → Listed next v → Passed up k (at head k) v → Passed up (k + 1) 0 v

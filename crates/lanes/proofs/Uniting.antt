@@ -3,20 +3,17 @@
 use mathlib.Core.Path.{◌≡◌, refl, sym, ap, ◌∙◌}
 use mathlib.Core.List.{List}
 use mathlib.Core.Logic.{◌≢◌, dite}
-use Prim.Native.Nat.{ℕ, zero, suc, ◌+◌, ◌<◌, ◌≤◌, max, min}
-use native.Mathlib.Decide.{ℕ_discrete}
+use Prim.Native.Nat.{ℕ, zero, suc, ◌<◌, ◌≤◌, max, min}
+use native.Mathlib.Decide.{ℕ_discrete, dec_lt}
 use native.Mathlib.Omega.{arith}
 use lib.ListN.{length, set, length-set, length-map}
-use lib.Seq.{get_or-set_other, ext_get_or}
+use lib.Seq.{get_or-set_other}
 use borrow.Author.Tests.{eq-eqb, ne_eqb}
 use Rattle.plain.specs.Table.{at}
 use Rattle.plain.proofs.Tabulate.{at_map}
 use Rattle.tables.specs.Link.{renamed, joined}
-use Rattle.lanes.specs.Forest.{Down, Forest, Found, Unitable, United, UnitedBelow, Flattened}
+use Rattle.lanes.specs.Forest.{Down, Forest, Found, Unitable, United}
 use Rattle.plain.proofs.Putting.{Put, here, there, put}
-
-down_in : {g : List ℕ} → Down g → (x : ℕ) → x < length g → at g x < length g
-down_in d x h = omega (arith, d.le x h)
 
 -- an entry no greater than its machine keeps the table going down
 down_put : {g : List ℕ} → Down g → {i v : ℕ} → i < length g → v ≤ i → Down (set g i v)
@@ -54,9 +51,6 @@ pub record Rooting (g₀ g : List ℕ) (c x v : ℕ) : Type 0 where
   pub small : x ≤ c
   pub keeps : (flat : List ℕ) → Forest g₀ flat → Forest g flat × (at flat x ≡ at flat c)
 
-pub root_start : {g : List ℕ} {c v : ℕ} → Down g → c < length g → v ≡ at g c → Rooting g g c c v
-root_start d h e = record { size = refl; low = h; near = rw e (down_in d _ h); is = e; down = d; small = omega arith; keeps = λ flat f. (f, refl) }
-
 module _ {g₀ g : List ℕ} {c x v : ℕ} (i : Rooting g₀ g c x v) where
   here_in : x < length g
   here_in = rw i.size i.low
@@ -90,14 +84,6 @@ module _ {g₀ g : List ℕ} {c x v : ℕ} (i : Rooting g₀ g c x v) where
       small = omega (arith, i.small);
       keeps = kept;
     }
-
-  pub root_end : v ≡ x → Found g₀ g c x
-  root_end e = record {
-    down = i.down;
-    small = i.small;
-    self = sym i.is ∙ e;
-    keeps = λ flat f. let (k, q) = i.keeps flat f in (k, sym (k.own x here_in (sym i.is ∙ e)) ∙ q);
-  }
 
 -- a group's name is no greater than its machines
 least : {g flat : List ℕ} → Forest g flat → (k x : ℕ) → x < k → x < length g → at flat x ≤ x
@@ -160,61 +146,30 @@ module _ {g₀ g₁ g : List ℕ} {c d r s : ℕ} (u : Unitable g₀ c d) (p : F
       let h₁ : r < length g₁ = omega (arith, p.small, u.one) in
       (m, ec, ed, name_self m r left_in (k.own r h₁ p.self))
 
-  pub united_left : r < s → United g₀ (set g s r) c d
-  united_left l = record {
-    down = down_put q.down right_in (omega arith);
-    joins = λ flat f. let (m, ec, ed, z) = names flat f in unites m c d (omega arith) right_in q.self z (omega arith) (omega arith);
+  -- the greater name is that of c's group or that of d's, and so is the lesser
+  pub united : {lo hi : ℕ} → lo ≡ min r s → hi ≡ max r s → United g₀ (set g hi lo) c d
+  united {lo} {hi} el eh = record {
+    down = down_put q.down hi_in (omega (arith, el, eh));
+    joins = λ flat f.
+        let (m, ec, ed, z) = names flat f in
+        unites m c d (omega (arith, el, eh)) hi_in (hi_own z) (lo_own z) (omega (arith, eh, ec, ed)) (omega (arith, el, ec, ed));
   }
+    where
+      hi_in : hi < length g
+      hi_in = omega (arith, eh, left_in, right_in)
 
-  pub united_right : s ≤ r → United g₀ (set g r s) c d
-  united_right l = record {
-    down = down_put q.down left_in l;
-    joins = λ flat f. let (m, ec, ed, z) = names flat f in unites m c d l left_in z q.self (omega arith) (omega arith);
-  }
+      hi_own : at g r ≡ r → at g hi ≡ hi
+      hi_own z = dite (dec_lt r s)
+          (λ b. let e : hi ≡ s = omega (arith, eh) in rw e q.self)
+          (λ b. let e : hi ≡ r = omega (arith, eh) in rw e z)
 
--- not where one of the two is w
-module _ {g : List ℕ} {w c d : ℕ} where
-  pub left_none : Unitable g c d → c ≡ w → UnitedBelow g g w c d
-  left_none n e = record { down = n.down; joins = λ flat f. rw (eq-eqb c w e) f }
-
-  pub right_none : Unitable g c d → c ≢ w → d ≡ w → UnitedBelow g g w c d
-  right_none n o e = record { down = n.down; joins = λ flat f. rw (ne_eqb c w o, eq-eqb d w e) f }
-
-  pub both : {g' : List ℕ} → c ≢ w → d ≢ w → United g g' c d → UnitedBelow g g' w c d
-  both o p u = record { down = u.down; joins = λ flat f. rw (ne_eqb c w o, ne_eqb d w p) (u.joins flat f) }
+      lo_own : at g r ≡ r → at g lo ≡ lo
+      lo_own z = dite (dec_lt r s)
+          (λ b. let e : lo ≡ r = omega (arith, el) in rw e z)
+          (λ b. let e : lo ≡ s = omega (arith, el) in rw e q.self)
 
 -- the sweep from the front has put the names below i
 pub record Flattening (g₀ g : List ℕ) (i : ℕ) : Type 0 where
   pub size : length g ≡ length g₀
   pub rest : (x : ℕ) → i ≤ x → at g x ≡ at g₀ x
   pub done : (flat : List ℕ) → Forest g₀ flat → (x : ℕ) → x < i → at g x ≡ at flat x
-
-pub flat_start : (g : List ℕ) → Flattening g g 0
-flat_start g = record { size = refl; rest = λ x _. refl; done = λ flat f x h. absurd (omega arith) }
-
-module _ {g₀ g : List ℕ} {i : ℕ} (d : Down g₀) (s : Flattening g₀ g i) where
-  module _ (h : i < length g) {v : ℕ} (e : v ≡ at g i) where
-    is : v ≡ at g₀ i
-    is = e ∙ s.rest i (omega arith)
-
-    pub flat_in : v < length g
-    flat_in = omega (arith, is, d.le i (rw (← s.size) h))
-
-    name-at : (flat : List ℕ) → Forest g₀ flat → at g v ≡ at flat i
-    name-at flat f = let k : i < length g₀ = rw (← s.size) h in dite (ℕ_discrete v i)
-        (λ q. ap (at g) q ∙ sym e ∙ q ∙ sym (f.own i k (sym is ∙ q)))
-        (λ o. s.done flat f v (omega (arith, f.down.le i k, is)) ∙ ap (at flat) is ∙ f.same i k)
-
-    pub flat_next : Flattening g₀ (set g i (at g v)) (i + 1)
-    flat_next = record {
-      size = length-set g i (at g v) ∙ s.size;
-      rest = λ x p. get_or-set_other g i x (at g v) 0 (omega arith) ∙ s.rest x (omega arith);
-      done = λ flat f x p. done flat f x p (put g i (at g v) x h);
-    }
-      where
-        done : (flat : List ℕ) → Forest g₀ flat → (x : ℕ) {r : ℕ} → x < i + 1 → Put g i (at g v) x r → r ≡ at flat x
-        done flat f x p (here q b) = b ∙ name-at flat f ∙ ap (at flat) (sym q)
-        done flat f x p (there o b) = b ∙ s.done flat f x (omega arith)
-
-  pub flat_end : length g ≤ i → Flattened g₀ g
-  flat_end l flat f = ext_get_or 0 g flat (s.size ∙ f.size) (λ x h. s.done flat f x (omega arith))

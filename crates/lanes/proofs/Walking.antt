@@ -8,8 +8,9 @@ use native.Mathlib.Omega.{arith}
 use lib.ListN.{length}
 use Rattle.plain.specs.Table.{at}
 use Rattle.tables.specs.Tree.{depth_of}
-use Rattle.lanes.specs.Depths.{Listed, Lists, OnList, Past}
-use Rattle.lanes.specs.Laying.{Ground, Noted}
+use Rattle.lanes.specs.Depths.{Listed, Lists, OnList, Past, Headed}
+use Rattle.lanes.specs.Laying.{Noted}
+use Rattle.lanes.proofs.Grown.{Grounded}
 
 module _ {n : ℕ} {d : ℕ → ℕ} {head next : List ℕ} (l : Lists n d n head next) where
   pub on_head : (k : ℕ) → OnList n d next k (at head k)
@@ -56,17 +57,44 @@ module _ {n : ℕ} {d : ℕ → ℕ} {head next : List ℕ} (l : Lists n d n hea
     pub past_still : {u : ℕ} → Past d k x u → Past d k (at next (x - 1)) u
     past_still (e, f) = (e, omega (arith, next_less refl))
 
+-- a list that is walked from its head
+pub headed : {up head next : List ℕ} → Grounded up head next → (k : ℕ) → k < length up → Headed head next k
+headed {up} {head} {next} g k h = record {
+  here = rw g.lists.heads h;
+  begins = λ v e. let (i, p, q) = g.lists.head_on k v e in (rw g.lists.nexts i, p);
+  falls = λ u w i p e. let (l, q, d) = g.lists.next_on u w (rw g.lists.nexts at i) p e in (l, q);
+}
+
 -- a walk stays inside its tables and goes down in number
-module _ {up head next : List ℕ} (g : Ground up head next) {k : ℕ} where
-  pub list_in : k < length up → k < length head
-  list_in h = rw g.lists.heads h
-
+module _ {up head next : List ℕ} (g : Grounded up head next) {k : ℕ} where
   module _ {x : ℕ} (o : OnList (length up) (depth_of up) next k x) (some : 0 < x) where
-    pub next_in : x - 1 < length next
-    next_in = rw g.lists.nexts (here_in g.lists o some)
-
     pub less : {y : ℕ} → y ≡ at next (x - 1) → y < x
     less = next_less g.lists o some
 
     pub noted : {one two : List ℕ} → length one ≡ length up → length two ≡ length up → Noted up one two (x - 1)
     noted p q = let h = here_in g.lists o some in record { few = g.few; here = h; above = g.tree.inside (x - 1) h; ones = p; twos = q }
+
+-- a walk of the list of depth k that stands at x of its table
+pub record Afoot (up next : List ℕ) (k : ℕ) (on : List ℕ) (x : ℕ) : Type 0 where
+  pub table : on ≡ next
+  pub list : OnList (length up) (depth_of up) next k x
+
+module _ {up head next : List ℕ} (g : Grounded up head next) {k : ℕ} where
+  pub set_out : {on : List ℕ} {x : ℕ} → on ≡ next → x ≡ at head k → Afoot up next k on x
+  set_out q e = record { table = q; list = rw e (on_head g.lists k) }
+
+  module _ {on : List ℕ} {x v : ℕ} (a : Afoot up next k on x) (b : x ≡ suc v) where
+    pub some : 0 < x
+    some = omega arith
+
+    pub passes : x - 1 ≡ v
+    passes = omega arith
+
+    pub leads : {y : ℕ} → y ≡ at on v → y ≡ at next (x - 1)
+    leads q = rw (passes, ← a.table) q
+
+    pub goes_on : {on' : List ℕ} {y : ℕ} → on' ≡ on → y ≡ at on v → Afoot up next k on' y
+    goes_on c q = record { table = c ∙ a.table; list = rw (leads q) (on_next g.lists a.list some) }
+
+    pub noted_here : {one two : List ℕ} → length one ≡ length up → length two ≡ length up → Noted up one two v
+    noted_here p q = rw passes at (noted g a.list some p q)

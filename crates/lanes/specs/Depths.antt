@@ -1,6 +1,6 @@
 -- The machines seen, in lists by their depth. An entry is one more than a machine, 0 where the list ends; a list goes down in number. Whoever is on
 -- no list has no next.
-use Rattle.std.specs.Prelude.{◌≡◌, List, ◌≢◌, ℕ, suc, ◌<◌, ◌≤◌, length}
+use Rattle.std.specs.Prelude.{◌≡◌, List, ◌≢◌, ℕ, suc, ◌<◌, ◌≤◌, length, Option, MatchOption}
 use Rattle.plain.specs.Table.{at}
 use Rattle.tables.specs.Tree.{most_machines}
 use Rattle.lanes.specs.Seen.{none, Seen}
@@ -52,3 +52,21 @@ OnList n d next k x = (v : ℕ) → x ≡ suc v → (v < n) × Listed next v × 
 -- a walk of the list of depth k that stands before the machine that x is one more than came by u there
 abbrev pub Past : (ℕ → ℕ) → ℕ → ℕ → ℕ → Type 0
 Past d k x u = (d u ≡ k) × (x ≤ u)
+
+-- x is one more than a machine on a list, or 0
+abbrev pub Begins : List ℕ → ℕ → Type 0
+Begins next x = (v : ℕ) → x ≡ suc v → (v < length next) × Listed next v
+
+-- whoever is on a list leads to a lesser one
+abbrev pub Falls : List ℕ → Type 0
+Falls next = (u w : ℕ) → u < length next → Listed next u → at next u ≡ suc w → (w < u) × Listed next w
+
+-- the head of list k
+pub record Headed (head next : List ℕ) (k : ℕ) : Type 0 where
+  pub here : k < length head
+  pub begins : Begins next (at head k)
+  pub falls : Falls next
+
+-- one step of a walk from x gives the machine that x is one more than, and stands at y then; none where the list ends
+abbrev pub Stepped : List ℕ → ℕ → Option ℕ → List ℕ → ℕ → Type 0
+Stepped next x r next' y = (next' ≡ next) × MatchOption r (x ≡ 0) (λ v. (x ≡ suc v) × (y ≡ at next v))

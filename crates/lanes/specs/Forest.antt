@@ -1,5 +1,5 @@
 -- Groups as a forest inside their own table: an entry is a machine of the same group that is no greater; the name of a group is its own entry.
-use Rattle.std.specs.Prelude.{◌≡◌, cond, ◌||◌, List, ℕ, ◌<◌, ◌≤◌, length, eqb}
+use Rattle.std.specs.Prelude.{◌≡◌, List, ℕ, ◌<◌, ◌≤◌, length}
 use Rattle.plain.specs.Table.{at}
 use Rattle.tables.specs.Tree.{most_machines}
 use Rattle.tables.specs.Link.{joined}
@@ -33,14 +33,6 @@ pub record Unitable (g : List ℕ) (c d : ℕ) : Type 0 where
 pub record United (g g' : List ℕ) (c d : ℕ) : Type 0 where
   pub down : Down g'
   pub joins : (flat : List ℕ) → Forest g flat → Forest g' (joined c d flat)
-
--- the groups of c and d made one, unless c or d is w
-abbrev pub joined_below : ℕ → ℕ → ℕ → List ℕ → List ℕ
-joined_below w c d group = cond (eqb c w || eqb d w) group (joined c d group)
-
-pub record UnitedBelow (g g' : List ℕ) (w c d : ℕ) : Type 0 where
-  pub down : Down g'
-  pub joins : (flat : List ℕ) → Forest g flat → Forest g' (joined_below w c d flat)
 
 -- each entry is the name of its group
 abbrev pub Flattened : List ℕ → List ℕ → Type 0

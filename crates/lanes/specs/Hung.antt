@@ -1,19 +1,17 @@
 -- What one link, and a batch of links, leave of the groups and of the least depths.
 use Rattle.std.specs.Prelude.{◌≡◌, List, ◌⊎◌, ℕ, zero, suc, ◌+◌, ◌*◌, ◌<◌, ◌≤◌, length}
-use Rattle.plain.specs.Table.{at, tabulate}
+use Rattle.plain.specs.Table.{at}
 use Rattle.tables.specs.declared.Verdict.TheVariants.{Sound}
-use Rattle.tables.specs.Tree.{most_machines, depth_of}
+use Rattle.tables.specs.Tree.{depth_of}
 use Rattle.tables.specs.Link.{meet, grouped}
 use Rattle.tables.specs.Batch.{pairs, batch_verdict}
-use Rattle.tables.specs.Demand1.{SoundTree}
 use Rattle.lanes.specs.Lane.{Laned, Hops}
 use Rattle.lanes.specs.Forest.{Down, Forest}
 use Rattle.lanes.specs.Low.{lowered}
 
 -- a link over a tree with its lanes, groups and least depths
-pub record Hangable (up depth top kid group low : List ℕ) (a b : ℕ) : Type 0 where
-  pub few : length up ≤ most_machines
-  pub hops : Hops up depth top kid a b
+pub record Hangable (up top kid group low : List ℕ) (a b : ℕ) : Type 0 where
+  pub hops : Hops up top kid a b
   pub groups : length group ≡ length up
   pub down : Down group
   pub lows : length low ≡ length up
@@ -54,12 +52,7 @@ pub record Lows (up batch : List ℕ) (i : ℕ) (low : List ℕ) : Type 0 where
   pub source : (v : ℕ) → v < length up → (depth_of up v ≤ at low v) ⊎ Source up batch i v (at low v)
 
 -- a batch that is accepted, over a tree with the lanes of its ends, and nobody knows of a ring
-pub record Batched (up depth top kid group low batch : List ℕ) : Type 0 where
-  pub few : length up ≤ most_machines
-  pub tree : SoundTree up
-  pub depths : depth ≡ tabulate (length up) (depth_of up)
-  pub tops : length top ≡ length up
-  pub kids : length kid ≡ length up
+pub record Batched (up top kid group low batch : List ℕ) : Type 0 where
   pub laned : (j : ℕ) → j < length batch → Laned up top kid (at batch j)
   pub groups : length group ≡ length up
   pub forest : Forest group group

@@ -5,14 +5,11 @@ use Rattle.plain.specs.Table.{at}
 use Rattle.rings.specs.Tree.{Uplink}
 use Rattle.tables.specs.Tree.{most_machines, depth_of}
 use Rattle.tables.specs.AsTree.{tree_of}
-use Rattle.tables.specs.Demand1.{SoundTree}
 use Rattle.lanes.specs.Depths.{Listed, Lists}
 use Rattle.lanes.specs.Lane.{InLane}
 
--- a tree with whole lines of machines on lists: with a machine its up
+-- whole lines of machines on lists: with a machine its up
 pub record Ground (up head next : List ℕ) : Type 0 where
-  pub few : length up ≤ most_machines
-  pub tree : SoundTree up
   pub lists : Lists (length up) (depth_of up) (length up) head next
   pub upward : {v w : ℕ} → Uplink (tree_of up) v w → Listed next v → Listed next w
 
@@ -30,16 +27,13 @@ pub record Noted (up one two : List ℕ) (v : ℕ) : Type 0 where
   pub twos : length two ≡ length up
 
 -- the list of depth k, with two tables of notes
-pub record ListAt (up head next one two : List ℕ) (k : ℕ) : Type 0 where
-  pub ground : Ground up head next
+pub record ListAt (up one two : List ℕ) (k : ℕ) : Type 0 where
   pub below : k < length up
   pub ones : length one ≡ length up
   pub twos : length two ≡ length up
 
 -- lists to be walked, with two tables of notes
-pub record Walkable (up head next one two : List ℕ) (count : ℕ) : Type 0 where
-  pub ground : Ground up head next
-  pub levels : Levels up next count
+pub record Walkable (up one two : List ℕ) : Type 0 where
   pub ones : length one ≡ length up
   pub twos : length two ≡ length up
 
@@ -54,8 +48,7 @@ pub record LanesTo (up next kid top : List ℕ) (k : ℕ) : Type 0 where
   pub lane : (v : ℕ) → v < length up → Listed next v → depth_of up v < k → InLane up top kid v
 
 -- those of depth k are next
-pub record LayableAt (up head next kid top : List ℕ) (k : ℕ) : Type 0 where
-  pub ground : Ground up head next
+pub record LayableAt (up next kid top : List ℕ) (k : ℕ) : Type 0 where
   pub kids : length kid ≡ length up
   pub below : k < length up
   pub lanes : LanesTo up next kid top k

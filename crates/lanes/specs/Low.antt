@@ -27,8 +27,8 @@ pub record Handed (up low low' mark mark' : List ℕ) (v k rise : ℕ) : Type 0 
   pub lifted : Lifted mark mark' v (asked (at low v) k) rise
 
 -- what a sweep over the lists takes: whoever is on no list knows of no ring
-pub record Sweepable (up head next low mark : List ℕ) (count : ℕ) : Type 0 where
-  pub walk : Walkable up head next low mark count
+pub record Sweepable (up next low mark : List ℕ) : Type 0 where
+  pub walk : Walkable up low mark
   pub unlisted : (v : ℕ) → v < length up → at next v ≡ none → depth_of up v ≤ at low v
 
 -- some machine under v has l as its entry

@@ -1,13 +1,12 @@
 -- The machines that a batch can change: those on the lines of its ends. Each of them has an entry among the least depths, at first its own depth.
 -- These are the contracts of private functions: nobody has to believe them. So it is with every file here but Whole.
 use Rattle.std.specs.Prelude.{◌≡◌, List, ◌≢◌, ◌⊎◌, ℕ, ◌<◌, ◌≤◌, length}
-use Rattle.plain.specs.Table.{at, tabulate}
+use Rattle.plain.specs.Table.{at}
 use Rattle.rings.specs.Tree.{Uplink}
 use Rattle.tables.specs.declared.Verdict.TheVariants.{Sound}
-use Rattle.tables.specs.Tree.{most_machines, depth_of}
+use Rattle.tables.specs.Tree.{depth_of}
 use Rattle.tables.specs.AsTree.{tree_of}
 use Rattle.tables.specs.Batch.{batch_verdict}
-use Rattle.tables.specs.Demand1.{SoundTree}
 
 -- the entry of a machine that no line has come by
 abbrev pub none : ℕ
@@ -22,11 +21,8 @@ pub record Fresh (up low : List ℕ) : Type 0 where
   pub upward : {v w : ℕ} → Uplink (tree_of up) v w → Seen low v → Seen low w
   pub own : (v : ℕ) → v < length up → Seen low v → at low v ≡ depth_of up v
 
--- a tree with its depths, and a machine v
-pub record Seeable (up depth low : List ℕ) (v : ℕ) : Type 0 where
-  pub few : length up ≤ most_machines
-  pub tree : SoundTree up
-  pub depths : depth ≡ tabulate (length up) (depth_of up)
+-- a machine v of a tree
+pub record Seeable (up low : List ℕ) (v : ℕ) : Type 0 where
   pub fresh : Fresh up low
   pub inside : v < length up
 
@@ -38,10 +34,7 @@ pub record SeenFrom (up low low' : List ℕ) (v : ℕ) : Type 0 where
   pub no_deeper : (x : ℕ) → Seen low' x → Seen low x ⊎ (depth_of up x ≤ depth_of up v)
 
 -- a batch that is accepted, and nobody is seen
-pub record Lookable (up depth low batch : List ℕ) : Type 0 where
-  pub few : length up ≤ most_machines
-  pub tree : SoundTree up
-  pub depths : depth ≡ tabulate (length up) (depth_of up)
+pub record Lookable (up low batch : List ℕ) : Type 0 where
   pub size : length low ≡ length up
   pub blank : (v : ℕ) → v < length up → at low v ≡ none
   pub accepted : batch_verdict (length up) batch ≡ Sound

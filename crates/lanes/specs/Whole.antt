@@ -32,9 +32,9 @@ pub record Applied (up depth group mark batch group' mark' : List ℕ) (r : ℕ)
   pub tables : tables_of depth group' mark' ≡ after up (pairs batch) (tables_of depth group mark)
   pub rise : r ≡ total mark' - total mark
 
--- a batch that is accepted, over a tree with its depths; nobody is seen, and no machine is on a list
-pub record Bare (up depth batch low head next : List ℕ) : Type 0 where
-  pub look : Lookable up depth low batch
+-- a batch that is accepted; nobody is seen, and no machine is on a list
+pub record Bare (up batch low head next : List ℕ) : Type 0 where
+  pub look : Lookable up low batch
   pub heads : length head ≡ length up
   pub nexts : length next ≡ length up
   pub empty : (k : ℕ) → at head k ≡ 0
@@ -52,10 +52,3 @@ pub record Looked (up batch low head next : List ℕ) (count : ℕ) : Type 0 whe
 pub record Joined (up group batch group' low : List ℕ) : Type 0 where
   pub names : group' ≡ groupings up batch (length (pairs batch)) group
   pub lows : Lows up batch (length (pairs batch)) low
-
--- what a batch takes, with local tables as long as the others
-pub record Prepared (up depth group mark batch low head next kid top : List ℕ) : Type 0 where
-  pub given : Applicable up depth group mark batch
-  pub bare : Bare up depth batch low head next
-  pub kids : length kid ≡ length up
-  pub tops : length top ≡ length up

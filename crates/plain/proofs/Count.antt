@@ -1,13 +1,18 @@
 -- Counts: whoever counts one or more finds one, whoever counts two or more finds another one; what others cover is no more than they are, and
 -- what a map hits is no more than what it is a map of.
-use mathlib.Core.Path.{◌≡◌, refl, sym, ◌∙◌}
+use mathlib.Core.Path.{◌≡◌, refl, sym, ap, ◌∙◌}
 use mathlib.Core.Bool.{Bool, true, false, cond, ◌&&◌, ◌||◌}
+use mathlib.Core.List.{List, [], ◌∷◌}
 use mathlib.Core.Logic.{◌≢◌, ◌⊎◌, ⊎_elim}
 use Prim.Native.Nat.{ℕ, zero, suc, ◌+◌, ◌<◌, ◌≤◌}
 use native.Mathlib.Omega.{arith}
 use lib.Dec.{eqb}
+use lib.ListN.{length}
 use borrow.Author.Tests.{eqb-true, eq-eqb}
+use Rattle.std.specs.List.{count_by}
+use Rattle.std.proofs.lemmas.List.Sums.{sum_by-cons}
 use Rattle.plain.specs.Search.{some, count}
+use Rattle.plain.specs.Table.{at}
 use Rattle.plain.proofs.Says.{by_cases, says_true, says_or}
 
 count_some : (n : ℕ) (p : ℕ → Bool) → 1 ≤ count n p → (d : ℕ) × (d < n) × (p d ≡ true)
@@ -83,3 +88,9 @@ count_image k zero f q = omega (arith, count_none k (λ w. false) (λ w _. refl)
 count_image k (suc n) f q =
     let split = count-or k (λ w. q zero && eqb (f zero) w) (λ w. some n (λ m. q (suc m) && eqb (f (suc m)) w)) in
     omega (arith, split, hits_one k (q zero) (f zero), count_image k n (λ m. f (suc m)) (λ m. q (suc m)))
+
+-- the entries of a list that pass, as a chain counts them
+pub count_list : (p : ℕ → Bool) (l : List ℕ) → count_by p l ≡ count (length l) (λ i. p (at l i))
+unfolding count
+count_list p [] = refl
+count_list p (a ∷ l) = sum_by-cons (λ x. cond (p x) 1 0) a l ∙ ap (λ n. cond (p a) 1 0 + n) (count_list p l)

@@ -9,3 +9,4 @@ pub mod Loops
 pub mod Putting
 pub mod Total
 pub mod Laid
+pub mod Ranges

@@ -4,46 +4,32 @@
 
 ghost use Rattle.std.specs.Prelude.{◌≤◌, length};
 
-use site::Site;
 use std::io;
-use turns::Turn;
+use turns::{Desk, Turn};
 
-// The first k bytes of a text.
+// The first k bytes of a text. Most records have none, and without the test a stream of trees took half as long again.
+// Kept: a function of its own: tried `&desk.text[..k]` in the loop, and of a desk's array the prover knows no length once a turn has come back.
 fn write_front(out: &impl Print, text: &[u8], k: usize) -> io::Result<()>
     requires { k ≤ length text.now }
 {
+    if k == 0 {
+        return Ok(());
+    }
     out.write_all(&text[..k])
 }
 
-// One site file over lent room. What it holds does not matter.
-pub fn print_file(
-    out: &impl Print,
-    file: &[u8],
-    up: &mut [u16; Site::MACHINES],
-    depth: &mut [u16; Site::MACHINES],
-    group: &mut [u16; Site::MACHINES],
-    mark: &mut [u8; Site::MACHINES],
-    batch: &mut [u16; 2 * Site::LINKS],
-    machines: &mut [u8; Site::MACHINES],
-    links: &mut [u8; Site::MACHINES],
-    text: &mut [u8; text::MOST_TEXT],
-) -> io::Result<()> {
+// One site file over a lent desk. What the desk holds does not matter.
+// Kept: a loop without a count: the turns end where the file does (`Printing`).
+pub fn print_file(out: &impl Print, file: &[u8], desk: &mut Desk) -> io::Result<()> {
     let mut reader = turns::first();
     loop {
-        let turn = turns::take(
-            file, reader, up, depth, group, mark, batch, machines, links, text,
-        );
-        match turn {
+        match turns::take(file, reader, desk) {
             Turn::More(next, k) => {
-                write_front(out, text, k)?;
+                write_front(out, &desk.text, k)?;
                 reader = next;
             }
-            Turn::Done(k) => {
-                return write_front(out, text, k);
-            }
-            Turn::Unfit => {
-                return Ok(());
-            }
+            Turn::Done(k) => return write_front(out, &desk.text, k),
+            Turn::Unfit => return Ok(()),
         }
     }
 }

@@ -1,8 +1,10 @@
+// shop: a site of four machines, one link, and how many chokes are left.
 #![tactic(auto)]
 
 use site::Site;
 use std::io;
 
+// The calls are lent a slice each, so the arrays stand side by side.
 fn main(rt: HostRuntime) -> io::Result<()> {
     let up = [0u16, 0, 1, 1];
     let mut depth = [0u16; 4];

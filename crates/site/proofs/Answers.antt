@@ -1,7 +1,7 @@
 -- How a call comes out by its checks: one that refuses is the answer, and what was lent is as it came; where all have passed, it is done.
-use mathlib.Core.Path.{◌≡◌, refl, ap, ◌∙◌}
+use mathlib.Core.Path.{◌≡◌, refl, ap}
 use mathlib.Core.List.{List}
-use Prim.Native.Nat.{ℕ, ◌≤◌}
+use Prim.Native.Nat.{ℕ, ◌%◌}
 use native.Mathlib.Omega.{arith}
 use lib.ListN.{length, replicate}
 use Rattle.plain.specs.Table.{tabulate, total}
@@ -9,7 +9,7 @@ use Rattle.tables.specs.declared.Answer.{Answer}
 use Rattle.tables.specs.declared.Fault.{Fault}
 use Rattle.tables.specs.declared.Verdict.TheVariants.{the_data as Verdict, Sound, Refused}
 use Rattle.tables.specs.Answer.{answer_to}
-use Rattle.tables.specs.Tree.{most_machines, hub}
+use Rattle.tables.specs.Tree.{hub}
 use Rattle.tables.specs.Tables.{Tables, tables_of, fresh}
 use Rattle.tables.specs.Batch.{pairs, after, rise}
 use Rattle.tables.specs.Report.{bytes_of, named, machine_byte, link_byte, machine_bytes, link_bytes}
@@ -21,10 +21,10 @@ use Rattle.tables.proofs.Sound.{sound_tree}
 use Rattle.tables.proofs.Links.{site_told}
 use Rattle.tables.proofs.Rise.{rise_is}
 use Rattle.checks.specs.Started.{started}
+use Rattle.lanes.proofs.ByItself.{alone_few}
 use Rattle.lanes.proofs.Preparing.{told_named}
 use Rattle.checks.proofs.Checking.{told, start_told, add_passed, report_passed}
 use Rattle.lanes.specs.Whole.{Applicable, Applied}
-use Rattle.site.specs.ReportFill.{ReportSized, ReportFilled}
 
 module _ {A : Type 0} (came : A) (value : ℕ) (left : A) {c v : Verdict} {r : Answer} where
   pub refused : {why : Fault} {place : ℕ} → c ≡ Refused why place → c ≡ v → r ≡ answer_to c 0 → outcome r came ≡ judged v came value left
@@ -49,16 +49,13 @@ module _ (up depth group mark : List ℕ) where
       unfolding start_verdict
       start_sizes = lengths up t (all_sound _ (told e (start_told _ up depth k).verdict)).0
 
-      pub start_few : length group ≤ most_machines
-      start_few = let s = start_sizes in omega (arith, s.few, s.group_size)
-
-      pub start_left : {r : Answer} {group' mark' : List ℕ} → group' ≡ tabulate (length group) (λ v. v) → mark' ≡ replicate (length mark) 0 → r ≡ answer_to c (length up)
+      pub start_left : {r : Answer} {group' mark' : List ℕ} → group' ≡ tabulate (length group) (λ v. v % 65536) → mark' ≡ replicate (length mark) 0 → r ≡ answer_to c (length up)
           → outcome r (tables_of depth' group' mark') ≡ start_of up t
       unfolding start_of fresh
       start_left g m a =
           let s = start_told _ up depth k in
           let z = start_sizes in
-          rw (s.found e, g, m, z.group_size, z.mark_size) (accepted t (length up) (fresh up) e s.verdict a)
+          rw (s.found e, g, m, z.group_size, z.mark_size, alone_few (length up) z.few) (accepted t (length up) (fresh up) e s.verdict a)
 
   module _ {c : Verdict} (e : c ≡ Sound) (batch : List ℕ) (q : c ≡ add_verdict up batch t) where
     -- the tables are those of links that stand: their depths are right, so a batch may climb by them, and their groups are named
@@ -87,21 +84,14 @@ module _ (up depth group mark : List ℕ) where
         rw p.tables (accepted t (rise t t') t' e q b)
 
   module _ {c : Verdict} (e : c ≡ Sound) (machines links : List ℕ) (q : c ≡ report_verdict up t (bytes_of machines links)) where
-    pub report_ready : ReportSized up group mark machines links
-    report_ready =
-        let (p, m, l) = report_passed up t (bytes_of machines links) (told e q) in
-        record { read = record { group_size = p.sizes.group_size; mark_size = p.sizes.mark_size }; machines_size = m; links_size = l }
+    pub report_sizes : Lengths up t × (length machines ≡ length up) × (length links ≡ length up)
+    report_sizes = let (p, m, l) = report_passed up t (bytes_of machines links) (told e q) in (p.sizes, m, l)
 
-    pub report_left : {r : Answer} {machines' links' : List ℕ} {chokes h : ℕ} → h ≡ hub up → ReportFilled up group mark h machines' links' chokes → r ≡ answer_to c chokes
+    pub report_left : {r : Answer} {machines' links' : List ℕ} {chokes h : ℕ} → h ≡ hub up → machines' ≡ tabulate (length up) (machine_byte h up group mark)
+        → links' ≡ tabulate (length up) (link_byte h mark) → chokes ≡ named machines' → r ≡ answer_to c chokes
         → outcome r (bytes_of machines' links') ≡ report_of up t (bytes_of machines links)
     unfolding report_of machine_bytes link_bytes
-    report_left {r} {chokes = chokes} k p a =
-        let n : chokes ≡ named (machine_bytes up t) = rw (p.counted, p.machines_are, k) refl in
+    report_left {r} {chokes = chokes} k m l p a =
+        let n : chokes ≡ named (machine_bytes up t) = rw (p, m, k) refl in
         let b : r ≡ answer_to c (named (machine_bytes up t)) = rw n at a in
-        rw (p.machines_are, p.links_are, k) (accepted (bytes_of machines links) (named (machine_bytes up t)) (bytes_of (machine_bytes up t) (link_bytes up t)) e q b)
-
--- both outputs by their rules, and the count of the first
-pub filled : {up group mark machines links machines' links' : List ℕ} {h r : ℕ} → ReportSized up group mark machines links
-    → machines' ≡ tabulate (length up) (machine_byte h up group mark) → links' ≡ tabulate (length links) (link_byte h mark) → r ≡ named machines'
-    → ReportFilled up group mark h machines' links' r
-filled s m l n = record { machines_are = m; links_are = l ∙ rw s.links_size; counted = n }
+        rw (m, l, k) (accepted (bytes_of machines links) (named (machine_bytes up t)) (bytes_of (machine_bytes up t) (link_bytes up t)) e q b)

@@ -6,15 +6,16 @@ ghost use Rattle.tables.specs.Tables.{tables_of};
 ghost use Rattle.tables.specs.Report.{bytes_of};
 ghost use Rattle.tables.specs.Outcome.{outcome, start_of, add_of, report_of};
 
-mod fill;
 mod report;
 
+use report::View;
 use tables::{Answer, Verdict};
 
 // A site is the slices that its calls are lent; the type has the limits and the calls.
 #[derive(Clone, Copy)]
 pub struct Site {}
 
+// Kept: each call is lent its slices one by one and answers a code and a value; its checks answer a `Verdict`, taken apart by `let .. else` (document 01).
 impl Site {
     // A site has at most so many machines.
     pub const MACHINES: usize = checks::MACHINES;
@@ -31,8 +32,8 @@ impl Site {
         let Verdict::Sound = check else {
             return checks::answer(check, 0);
         };
-        fill::number(group);
-        fill::clear(mark);
+        lanes::alone(group);
+        mark.fill(0);
         checks::answer(check, up.len())
     }
 
@@ -71,8 +72,13 @@ impl Site {
         let Verdict::Sound = check else {
             return checks::answer(check, 0);
         };
-        let top = checks::hub(up);
-        let chokes = report::fill(up, group, mark, top, machines, links);
+        let view = View {
+            up,
+            group,
+            mark,
+            top: checks::hub(up),
+        };
+        let chokes = view.fill(machines, links);
         checks::answer(check, chokes)
     }
 }

@@ -1,286 +1,178 @@
 // The report of a site: a byte for each machine, and one for each uplink.
-ghost use Rattle.std.specs.Prelude.{◌≡◌, cond, ◌<◌, length};
+// Kept: marks are matched by their ranges, and the outputs are written by index (document 01).
+ghost use Rattle.std.specs.Prelude.{◌≡◌, ◌<◌, length};
 ghost use Rattle.plain.specs.Search.{some, count};
 ghost use Rattle.plain.specs.Table.{tabulate};
 ghost use Rattle.tables.specs.Report.{named, child, carried_member, stuck_child, stuck, in_two, split, ends, lone_end, lone, machine_byte, link_byte};
-ghost use Rattle.site.specs.ReportFill.{ReportRead, ReportSized, ReportFilled};
 
-use checks::at;
-
-// Whether c is a child of w; the hub is no child.
-fn child(up: &[u16], top: usize, w: usize, c: usize) -> bool
-    requires { c < length up.now }
-    ensures { result ≡ child top up.now w c }
-{
-    if c == top {
-        return false;
-    }
-    at(up, c) == w
+// What a report reads: of each machine where its uplink ends, its group and its mark, and which machine is the hub.
+// Of two tests the one that mostly fails comes first.
+#[derive(Clone, Copy)]
+pub struct View<'a> {
+    pub up: &'a [u16],
+    pub group: &'a [u16],
+    pub mark: &'a [u8],
+    pub top: usize,
+    ghost group_size: { length group.now ≡ length up.now },
+    ghost mark_size: { length mark.now ≡ length up.now },
 }
 
-// Whether m is a carried member of group g.
-fn carried_member(group: &[u16], mark: &[u8], g: usize, m: usize) -> bool
-    requires { (m < length group.now) × (m < length mark.now) }
-    ensures { result ≡ carried_member group.now mark.now g m }
-{
-    if at(group, m) != g {
-        return false;
+impl<'a> View<'a> {
+    // Whether c is a child of w; the hub is no child.
+    #[tactic(auto, unfolding(tables::specs::Report::child))]
+    fn child(&self, w: usize, c: usize) -> bool
+        requires { c < length self.now.up.now }
+        ensures { result ≡ child self.now.top self.now.up.now w c }
+    {
+        self.up[c] as usize == w && c != self.top
     }
-    match mark[m] {
-        2 => true,
-        0 | 1 | 3..=255 => false,
-    }
-}
 
-// Whether group g has a carried member.
-fn group_carried(group: &[u16], mark: &[u8], g: usize) -> bool
-    requires { length mark.now ≡ length group.now }
-    ensures { result ≡ some (length group.now) (carried_member group.now mark.now g) }
-{
-    let mut m = 0;
-    while m < group.len() {
-        if carried_member(group, mark, g, m) {
-            return true;
+    // Whether m is a carried member of group g.
+    fn carried_member(&self, g: usize, m: usize) -> bool
+        requires { m < length self.now.up.now }
+        ensures { result ≡ carried_member self.now.group.now self.now.mark.now g m }
+    {
+        self.group[m] as usize == g
+            && match self.mark[m] {
+                2 => true,
+                0 | 1 | 3..=255 => false,
+            }
+    }
+
+    // Whether group g has a carried member.
+    // Kept: this and the other four searches are one `any` each over a test of its own; a function of them all would be no shorter than its calls. That a machine is one
+    // speaks of an argument, so it stands in the contract of each test.
+    fn group_carried(&self, g: usize) -> bool
+        ensures { result ≡ some (length self.now.up.now) (carried_member self.now.group.now self.now.mark.now g) }
+    {
+        (0..self.up.len()).any(|m| self.carried_member(g, m))
+    }
+
+    // Whether c is a child of w whose group has no carried member.
+    fn stuck_child(&self, w: usize, c: usize) -> bool
+        requires { c < length self.now.up.now }
+        ensures { result ≡ stuck_child self.now.top self.now.up.now self.now.group.now self.now.mark.now w c }
+    {
+        self.child(w, c) && !self.group_carried(self.group[c] as usize)
+    }
+
+    // Line 1: some child's group has no carried member.
+    fn stuck(&self, w: usize) -> bool
+        ensures { result ≡ stuck self.now.top self.now.up.now self.now.group.now self.now.mark.now w }
+    {
+        (0..self.up.len()).any(|c| self.stuck_child(w, c))
+    }
+
+    // Whether c and d are children of w in two groups.
+    fn in_two(&self, w: usize, c: usize, d: usize) -> bool
+        requires c_in { c < length self.now.up.now }
+        requires d_in { d < length self.now.up.now }
+        ensures { result ≡ in_two self.now.top self.now.up.now self.now.group.now w c d }
+    {
+        self.child(w, c) && self.child(w, d) && self.group[c] != self.group[d]
+    }
+
+    // Whether some child of w is in another group than its child c.
+    fn other_group(&self, w: usize, c: usize) -> bool
+        requires { c < length self.now.up.now }
+        ensures { result ≡ some (length self.now.up.now) (in_two self.now.top self.now.up.now self.now.group.now w c) }
+    {
+        (0..self.up.len()).any(|d| self.in_two(w, c, d))
+    }
+
+    // Line 2: the children are in two or more groups.
+    fn split(&self, w: usize) -> bool
+        ensures { result ≡ split self.now.top self.now.up.now self.now.group.now w }
+    {
+        (0..self.up.len()).any(|c| self.other_group(w, c))
+    }
+
+    // Whether the uplink of v ends at w: it is w's own or a child's.
+    #[tactic(auto, unfolding(tables::specs::Report::ends))]
+    fn ends(&self, w: usize, v: usize) -> bool
+        requires { v < length self.now.up.now }
+        ensures { result ≡ ends self.now.top self.now.up.now w v }
+    {
+        (v == w || self.up[v] as usize == w) && v != self.top
+    }
+
+    // Whether the uplink of v ends at w and is lone.
+    fn lone_end(&self, w: usize, v: usize) -> bool
+        requires { v < length self.now.up.now }
+        ensures { result ≡ lone_end self.now.top self.now.up.now self.now.mark.now w v }
+    {
+        self.ends(w, v)
+            && match self.mark[v] {
+                0 => true,
+                1..=255 => false,
+            }
+    }
+
+    // Whether some lone uplink ends at w.
+    fn ends_lone(&self, w: usize) -> bool
+        ensures { result ≡ some (length self.now.up.now) (lone_end self.now.top self.now.up.now self.now.mark.now w) }
+    {
+        (0..self.up.len()).any(|v| self.lone_end(w, v))
+    }
+
+    // How many uplinks end at w.
+    fn count_ends(&self, w: usize) -> usize
+        ensures { result ≡ count (length self.now.up.now) (ends self.now.top self.now.up.now w) }
+    {
+        (0..self.up.len()).filter(|v| self.ends(w, *v)).count()
+    }
+
+    // Line 3: w ends a lone uplink, and two or more uplinks end at w.
+    #[tactic(auto, unfolding(tables::specs::Report::lone))]
+    fn lone(&self, w: usize) -> bool
+        ensures { result ≡ lone self.now.top self.now.up.now self.now.mark.now w }
+    {
+        self.ends_lone(w) && 2 <= self.count_ends(w)
+    }
+
+    // The machine byte of w: the first line that applies. Only the hub has line 2, and it has no line 1.
+    #[tactic(auto, unfolding(tables::specs::Report::machine_byte))]
+    fn machine_byte(&self, w: usize) -> u8
+        ensures { result ≡ machine_byte self.now.top self.now.up.now self.now.group.now self.now.mark.now w }
+    {
+        if w != self.top && self.stuck(w) {
+            1
+        } else if w == self.top && self.split(w) {
+            2
+        } else if self.lone(w) {
+            3
+        } else {
+            0
         }
-        m += 1;
     }
-    false
-}
 
-// Whether c is a child of w whose group has no carried member.
-fn stuck_child(up: &[u16], group: &[u16], mark: &[u8], top: usize, w: usize, c: usize) -> bool
-    requires { ReportRead up.now group.now mark.now × (c < length up.now) }
-    ensures { result ≡ stuck_child top up.now group.now mark.now w c }
-{
-    if !child(up, top, w, c) {
-        return false;
-    }
-    !group_carried(group, mark, at(group, c))
-}
-
-// Line 1: some child's group has no carried member.
-fn stuck(up: &[u16], group: &[u16], mark: &[u8], top: usize, w: usize) -> bool
-    requires { ReportRead up.now group.now mark.now }
-    ensures { result ≡ stuck top up.now group.now mark.now w }
-{
-    let mut c = 0;
-    while c < up.len() {
-        if stuck_child(up, group, mark, top, w, c) {
-            return true;
+    // The link byte of v: 1 if v is not the hub and its mark is 0.
+    fn link_byte(&self, v: usize) -> u8
+        requires { v < length self.now.up.now }
+        ensures { result ≡ link_byte self.now.top self.now.mark.now v }
+    {
+        if v == self.top {
+            return 0;
         }
-        c += 1;
-    }
-    false
-}
-
-// Whether c and d are children of w in two groups.
-fn in_two(up: &[u16], group: &[u16], top: usize, w: usize, c: usize, d: usize) -> bool
-    requires { (length group.now ≡ length up.now) × (c < length up.now) × (d < length up.now) }
-    ensures { result ≡ in_two top up.now group.now w c d }
-{
-    if !child(up, top, w, c) {
-        return false;
-    }
-    if !child(up, top, w, d) {
-        return false;
-    }
-    at(group, c) != at(group, d)
-}
-
-// Whether some child of w is in another group than its child c.
-fn other_group(up: &[u16], group: &[u16], top: usize, w: usize, c: usize) -> bool
-    requires { (length group.now ≡ length up.now) × (c < length up.now) }
-    ensures { result ≡ some (length up.now) (in_two top up.now group.now w c) }
-{
-    let mut d = 0;
-    while d < up.len() {
-        if in_two(up, group, top, w, c, d) {
-            return true;
+        match self.mark[v] {
+            0 => 1,
+            1..=255 => 0,
         }
-        d += 1;
     }
-    false
-}
 
-// Line 2: the children are in two or more groups.
-fn split(up: &[u16], group: &[u16], top: usize, w: usize) -> bool
-    requires { length group.now ≡ length up.now }
-    ensures { result ≡ split top up.now group.now w }
-{
-    let mut c = 0;
-    while c < up.len() {
-        if other_group(up, group, top, w, c) {
-            return true;
+    // Fills both outputs, in number order, and says how many machines it names.
+    #[tactic(auto, using(plain::proofs::Fill::fill_end))]
+    pub fn fill(&self, machines: &mut [u8], links: &mut [u8]) -> usize
+        requires machines_size { length machines.old ≡ length self.now.up.now }
+        requires links_size { length links.old ≡ length self.now.up.now }
+        ensures machines_are { machines.new ≡ tabulate (length self.now.up.now) (machine_byte self.now.top self.now.up.now self.now.group.now self.now.mark.now) }
+        ensures links_are { links.new ≡ tabulate (length self.now.up.now) (link_byte self.now.top self.now.mark.now) }
+        ensures counted { result ≡ named machines.new }
+    {
+        for w in 0..self.up.len() {
+            machines[w] = self.machine_byte(w);
+            links[w] = self.link_byte(w);
         }
-        c += 1;
+        machines.iter().filter(|b| **b != 0).count()
     }
-    false
-}
-
-// Whether the uplink of v ends at w: it is w's own or a child's.
-fn ends(up: &[u16], top: usize, w: usize, v: usize) -> bool
-    requires { v < length up.now }
-    ensures { result ≡ ends top up.now w v }
-{
-    if v == top {
-        return false;
-    }
-    if v == w {
-        return true;
-    }
-    at(up, v) == w
-}
-
-// Whether the uplink of v ends at w and is lone.
-fn lone_end(up: &[u16], mark: &[u8], top: usize, w: usize, v: usize) -> bool
-    requires { (length mark.now ≡ length up.now) × (v < length up.now) }
-    ensures { result ≡ lone_end top up.now mark.now w v }
-{
-    if !ends(up, top, w, v) {
-        return false;
-    }
-    match mark[v] {
-        0 => true,
-        1..=255 => false,
-    }
-}
-
-// Whether some lone uplink ends at w.
-fn ends_lone(up: &[u16], mark: &[u8], top: usize, w: usize) -> bool
-    requires { length mark.now ≡ length up.now }
-    ensures { result ≡ some (length up.now) (lone_end top up.now mark.now w) }
-{
-    let mut v = 0;
-    while v < up.len() {
-        if lone_end(up, mark, top, w, v) {
-            return true;
-        }
-        v += 1;
-    }
-    false
-}
-
-// What a test adds to a count.
-fn one(test: bool) -> usize
-    ensures { result ≡ cond test 1 0 }
-{
-    if test { 1 } else { 0 }
-}
-
-// How many uplinks end at w.
-fn count_ends(up: &[u16], top: usize, w: usize) -> usize
-    ensures { result ≡ count (length up.now) (ends top up.now w) }
-{
-    let mut n: usize = 0;
-    let mut v = 0;
-    while v < up.len() {
-        n += one(ends(up, top, w, v));
-        v += 1;
-    }
-    n
-}
-
-// Line 3: w ends a lone uplink, and two or more uplinks end at w.
-fn lone(up: &[u16], mark: &[u8], top: usize, w: usize) -> bool
-    requires { length mark.now ≡ length up.now }
-    ensures { result ≡ lone top up.now mark.now w }
-{
-    if !ends_lone(up, mark, top, w) {
-        return false;
-    }
-    2 <= count_ends(up, top, w)
-}
-
-// The last two lines of the machine byte.
-fn lone_byte(up: &[u16], mark: &[u8], top: usize, w: usize) -> u8
-    requires { length mark.now ≡ length up.now }
-    ensures { result ≡ cond (lone top up.now mark.now w) 3 0 }
-{
-    if lone(up, mark, top, w) { 3 } else { 0 }
-}
-
-// The machine byte of w: the first line that applies. Only the hub has line 2, and it has no line 1.
-fn machine_byte(up: &[u16], group: &[u16], mark: &[u8], top: usize, w: usize) -> u8
-    requires { ReportRead up.now group.now mark.now }
-    ensures { result ≡ machine_byte top up.now group.now mark.now w }
-{
-    if w == top {
-        if split(up, group, top, w) {
-            return 2;
-        }
-        lone_byte(up, mark, top, w)
-    } else {
-        if stuck(up, group, mark, top, w) {
-            return 1;
-        }
-        lone_byte(up, mark, top, w)
-    }
-}
-
-// The link byte of v: 1 if v is not the hub and its mark is 0.
-fn link_byte(mark: &[u8], top: usize, v: usize) -> u8
-    requires { v < length mark.now }
-    ensures { result ≡ link_byte top mark.now v }
-{
-    if v == top {
-        return 0;
-    }
-    match mark[v] {
-        0 => 1,
-        1..=255 => 0,
-    }
-}
-
-// All machine bytes, in number order.
-fn fill_machines(up: &[u16], group: &[u16], mark: &[u8], top: usize, machines: &mut [u8])
-    requires { ReportRead up.now group.now mark.now × (length machines.old ≡ length up.now) }
-    ensures { machines.new ≡ tabulate (length up.now) (machine_byte top up.now group.now mark.now) }
-{
-    let mut w = 0;
-    while w < up.len() {
-        machines[w] = machine_byte(up, group, mark, top, w);
-        w += 1;
-    }
-}
-
-// All link bytes, in number order.
-fn fill_links(mark: &[u8], top: usize, links: &mut [u8])
-    requires { length links.old ≡ length mark.now }
-    ensures { links.new ≡ tabulate (length links.old) (link_byte top mark.now) }
-{
-    let mut v = 0;
-    while v < mark.len() {
-        links[v] = link_byte(mark, top, v);
-        v += 1;
-    }
-}
-
-// How many bytes are not 0.
-fn count_named(bytes: &[u8]) -> usize
-    ensures { result ≡ named bytes.now }
-{
-    let mut n: usize = 0;
-    let mut w = 0;
-    while w < bytes.len() {
-        n += one(bytes[w] != 0);
-        w += 1;
-    }
-    n
-}
-
-// Fills both outputs, and says how many machines it names.
-pub fn fill(
-    up: &[u16],
-    group: &[u16],
-    mark: &[u8],
-    top: usize,
-    machines: &mut [u8],
-    links: &mut [u8],
-) -> usize
-    requires { ReportSized up.now group.now mark.now machines.old links.old }
-    ensures { ReportFilled up.now group.now mark.now top machines.new links.new result }
-{
-    fill_machines(up, group, mark, top, machines);
-    fill_links(mark, top, links);
-    count_named(machines)
 }

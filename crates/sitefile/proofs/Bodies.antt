@@ -1,23 +1,12 @@
 -- The body of a record, by the two tests that find it: the kind alone fixes the length, so each case is the definition with its tests known.
-use mathlib.Core.Path.{◌≡◌, refl}
+use mathlib.Core.Path.{◌≡◌}
 use mathlib.Core.List.{List, []}
-use Prim.Native.Nat.{ℕ, zero, suc, ◌+◌, ◌-◌, ◌*◌, ◌/◌, ◌<◌, ◌≤◌}
+use Prim.Native.Nat.{ℕ, ◌+◌, ◌-◌, ◌<◌, ◌≤◌}
 use native.Mathlib.Omega.{arith}
-use lib.ListN.{length, take, drop, get_or-eq_default}
-use borrow.Author.Tests.{lt-ltb, le-ltb, le-leb, lt-leb, ne_eqb}
+use lib.ListN.{length, take, drop}
+use borrow.Author.Tests.{lt-ltb, le-ltb, le-leb, lt-leb}
 use Rattle.plain.specs.Table.{at}
-use Rattle.sitefile.specs.Record.{body_length, whole, body_of, word}
-
-pub two_bytes : (kind : ℕ) → 0 < kind → kind < 3 → 2 ≡ body_length kind
-unfolding body_length
-two_bytes zero a b = absurd (omega arith)
-two_bytes (suc zero) a b = refl
-two_bytes (suc (suc zero)) a b = refl
-two_bytes (suc (suc (suc k))) a b = absurd (omega arith)
-
-pub no_bytes : (kind : ℕ) → ¬ (kind ≡ 1) → ¬ (kind ≡ 2) → ¬ (kind ≡ 3) → 0 ≡ body_length kind
-unfolding body_length
-no_bytes kind a b c = rw (ne_eqb kind 1 a, ne_eqb kind 2 b, ne_eqb kind 3 c)
+use Rattle.sitefile.specs.Record.{body_length, whole, body_of}
 
 -- no bytes from anywhere
 nothing : (a : ℕ) (l : List ℕ) → take (a - a) l ≡ []
@@ -40,8 +29,3 @@ module _ (file : List ℕ) (place len : ℕ) (kind : len ≡ body_length (at fil
 pub body_past : (file : List ℕ) (place : ℕ) → length file ≤ place → [] ≡ body_of file place
 unfolding body_of whole
 body_past file place h = rw (le-ltb place (length file) h)
-
--- a place past the half is past the end, doubled
-pub word_past : (body : List ℕ) (i : ℕ) → length body / 2 < i → 0 ≡ word body i
-word_past body i h =
-    rw (get_or-eq_default body 0 {n = 2 * i} (omega arith), get_or-eq_default body 0 {n = 2 * i + 1} (omega arith))

@@ -95,7 +95,7 @@ module _ (bytes : List ℕ) (r : Reader) (up depth group mark batch machines lin
   part = front r.n own
 
   abbrev next : Reader
-  next = reader_at (r.place + 1) r.n r.n 0
+  next = reader_at (r.place + 1) r.n r.ups 0
 
   tree_size : length tree ≡ r.n
   tree_size = length-take-le r.n up f.in_up

@@ -1,5 +1,5 @@
 -- The whole step: a reader that does not fit is unfit; else what is due tells what the file's step is, and what each kind's function asks
--- follows from the counts, since the slices have room for any site.
+-- follows from the counts, since the arrays have room for any site.
 use mathlib.Core.Path.{◌≡◌, refl, sym, ◌∙◌}
 use mathlib.Core.Bool.{Bool, true, false, not}
 use mathlib.Core.List.{List}
@@ -16,7 +16,7 @@ use Rattle.tables.specs.Outcome.{Outcome, outcome}
 use Rattle.sitefile.specs.File as file
 use Rattle.sitefile.specs.File.{reader_of, due_of}
 use Rattle.sitefile.specs.Next.{Room, room_of, counts_fit, read_of, next_of}
-use Rattle.sitefile.specs.Reading.{leads, Doing, Fronts, UplinkDue, LinkDue, CloseDue, ReportDue}
+use Rattle.sitefile.specs.Reading.{leads, Fronts, UplinkDue, LinkDue, CloseDue, ReportDue}
 use Rattle.sitefile.specs.declared.Reader.{Reader}
 use Rattle.sitefile.specs.declared.Step.{Step}
 use Rattle.sitefile.specs.declared.Step.TheVariants as steps
@@ -31,62 +31,56 @@ Fit r = (r.n ≤ most_machines) × ((r.ups ≤ r.n) × ((r.opened ≤ 2 * most_l
 pub says_fit : (r : Reader) → Says (counts_fit r) (Fit r)
 says_fit r = says_and (says_le r.n most_machines) (says_and (says_le r.ups r.n) (says_and (says_le r.opened (2 * most_links)) (says_eq (r.opened % 2) 0)))
 
--- what each kind's function asks
-module _ {bytes : List ℕ} {r : Reader} {d : Due} {up depth group mark batch machines links : ℕ} (k : Doing bytes r d up depth group mark batch machines links) where
-  fit : Fit r
-  fit = (says_fit r).gives k.counts
+pub counts : (r : Reader) {b : Bool} → b ≡ counts_fit r → not b ≡ false → counts_fit r ≡ true
+counts r {b} e f = sym e ∙ not-false b f
 
-  fronts : Fronts r.n up depth group mark
-  fronts = let f = fit in record { in_up = omega (arith, k.in_up); in_depth = omega (arith, k.in_depth); in_group = omega (arith, k.in_group); in_mark = omega (arith, k.in_mark) }
+-- what each kind's function asks
+module _ (bytes : List ℕ) (r : Reader) {d : Due} {b : Bool} (e : b ≡ counts_fit r) (f : not b ≡ false) (g : d ≡ due_of bytes r) where
+  fit : Fit r
+  fit = (says_fit r).gives (counts r e f)
 
   facts : {w : Due} → d ≡ w → DueFacts bytes r w
-  facts h = told bytes r (sym k.is_due ∙ h)
-
-  pub ups_inside : r.ups ≤ up
-  ups_inside = let f = fit in omega (arith, k.in_up)
+  facts h = told bytes r (sym g ∙ h)
 
   pub size_due : d ≡ due.Size → r.place + 3 ≤ length bytes
   unfolding DueFacts
   size_due h = facts h
 
-  pub uplink_due : d ≡ due.Uplink → UplinkDue bytes r up depth group mark
+  pub uplink_due : d ≡ due.Uplink → UplinkDue bytes r
   unfolding DueFacts
-  uplink_due h = let t : DueFacts bytes r due.Uplink = facts h in record { body = t.0; more = t.1; few = fit.0; fronts = fronts }
+  uplink_due h = let t : DueFacts bytes r due.Uplink = facts h in record { body = t.0; more = t.1; few = fit.0 }
 
-  pub link_due : d ≡ due.Link → LinkDue bytes r batch
+  pub link_due : d ≡ due.Link → LinkDue bytes r
   unfolding DueFacts
-  link_due h = let f = fit in record { body = facts h; inside = omega (arith, k.in_batch); size = k.in_batch; pairs = f.1.1.1 }
+  link_due h = let k = fit in record { body = facts h; inside = k.1.1.0; pairs = k.1.1.1; ups = omega arith }
 
-  pub close_due : d ≡ due.Close → length bytes < 2 ^ 64 → CloseDue r up depth group mark batch
-  unfolding DueFacts
-  close_due h s = let t = facts h in let f = fit in record { low = omega arith; grown = t.1; fronts = fronts; inside = omega (arith, k.in_batch) }
+  -- over arrays that have room for any site
+  module _ {up depth group mark : ℕ} (u : up ≡ most_machines) (p : depth ≡ most_machines) (q : group ≡ most_machines) (m : mark ≡ most_machines) where
+    fronts : Fronts r.n up depth group mark
+    fronts = let k = fit in record { in_up = omega arith; in_depth = omega arith; in_group = omega arith; in_mark = omega arith }
 
-  pub report_due : d ≡ due.Report → length bytes < 2 ^ 64 → ReportDue r up depth group mark machines links
-  unfolding DueFacts
-  report_due h s =
-      let t = facts h in
-      let f = fit in
-      record { low = omega arith; grown = t.1; fronts = fronts; in_machines = omega (arith, k.in_machines); in_links = omega (arith, k.in_links) }
+    pub close_due : {batch : ℕ} → d ≡ due.Close → length bytes < 2 ^ 64 → batch ≡ 2 * most_links → CloseDue r up depth group mark batch
+    unfolding DueFacts
+    close_due h s b = let t = facts h in let k = fit in record { low = omega arith; grown = t.1; fronts = fronts; inside = omega arith }
 
--- what is due is done by the function of its kind; the end and a refusal leave the slices alone
-module _ (bytes : List ℕ) (r : Reader) (room : Room) {d : Due} where
-  pub end_done : d ≡ due.End → outcome steps.End room ≡ leads bytes r d room
+    pub report_due : {machines links : ℕ} → d ≡ due.Report → length bytes < 2 ^ 64 → machines ≡ most_machines → links ≡ most_machines
+        → ReportDue r up depth group mark machines links
+    unfolding DueFacts
+    report_due h s a b = let t = facts h in let k = fit in record { low = omega arith; grown = t.1; fronts = fronts; in_machines = omega arith; in_links = omega arith }
+
+-- the end and a refusal leave the room alone
+module _ (bytes : List ℕ) (r : Reader) (room : Room) where
+  pub end_done : outcome steps.End room ≡ leads bytes r due.End room
   unfolding leads file.done
-  end_done h = rw h refl
+  end_done = refl
 
-  pub stop_done : {a : Answer} → d ≡ due.Stop a → outcome (steps.Refused a) room ≡ leads bytes r d room
+  pub stop_done : (a : Answer) → outcome (steps.Refused a) room ≡ leads bytes r (due.Stop a) room
   unfolding leads file.done
-  stop_done h = rw h refl
-
-  pub kind_done : {k : Due} {w : Outcome Step Room} → d ≡ k → w ≡ leads bytes r k room → w ≡ leads bytes r d room
-  kind_done h q = rw h q
+  stop_done a = refl
 
 reader_is : (r : Reader) (room : Room) → r.ups ≤ length room.up → r.opened ≤ length room.batch → reader_of (read_of r room) ≡ r
 unfolding read_of
 reader_is r room u o = rw (length-take-le r.ups room.up u, length-take-le r.opened room.batch o)
-
-pub counts : (r : Reader) {b : Bool} → b ≡ counts_fit r → not b ≡ false → counts_fit r ≡ true
-counts r {b} e f = sym e ∙ not-false b f
 
 module _ (bytes : List ℕ) (r : Reader) (up depth group mark batch machines links : List ℕ) {b : Bool} (e : b ≡ counts_fit r) where
   abbrev room : Room
@@ -96,7 +90,10 @@ module _ (bytes : List ℕ) (r : Reader) (up depth group mark batch machines lin
   unfolding next_of
   next_unfit f = rw (sym e ∙ not-true b f)
 
-  pub next_done : {d : Due} {w : Outcome Step Room} → not b ≡ false → length up ≡ most_machines → length batch ≡ 2 * most_links → d ≡ due_of bytes r
-      → w ≡ leads bytes r d room → w ≡ next_of bytes r room
+  -- what is due is done by the function of its kind
+  pub next_done : {d k : Due} {w : Outcome Step Room} → not b ≡ false → length up ≡ most_machines → length batch ≡ 2 * most_links → d ≡ due_of bytes r → d ≡ k
+      → w ≡ leads bytes r k room → w ≡ next_of bytes r room
   unfolding leads next_of file.step
-  next_done f u l g q = let k = (says_fit r).gives (counts r e f) in rw (counts r e f, reader_is r room (omega arith) (omega arith), sym g) q
+  next_done f u l g h q =
+      let t = (says_fit r).gives (counts r e f) in
+      rw (counts r e f, reader_is r room (omega arith) (omega arith), sym g, h) q

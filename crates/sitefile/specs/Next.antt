@@ -1,5 +1,5 @@
 -- The next record of a file over lent slices: what it comes to, and every slice as it leaves it.
-use Rattle.std.specs.Prelude.{Bool, cond, ◌&&◌, List, ℕ, ◌*◌, ◌%◌, take, leb, eqb}
+use Rattle.std.specs.Prelude.{Bool, cond, ◌&&◌, List, ℕ, ◌*◌, ◌%◌, replicate, take, leb, eqb}
 use Rattle.plain.specs.Laid.{laid}
 use Rattle.tables.specs.Tree.{most_machines}
 use Rattle.tables.specs.Batch.{most_links}
@@ -8,6 +8,7 @@ use Rattle.tables.specs.Tables.{Tables, tables_of}
 use Rattle.tables.specs.Report.{Bytes, bytes_of}
 use Rattle.sitefile.specs.File as file
 use Rattle.sitefile.specs.declared.Reader.{Reader}
+use Rattle.sitefile.specs.declared.Room as code
 use Rattle.sitefile.specs.declared.Step.{Step}
 use Rattle.sitefile.specs.declared.Step.TheVariants as steps
 
@@ -21,6 +22,16 @@ pub record Room : Type 0 where
 -- the seven slices as one
 abbrev pub room_of : List ℕ → List ℕ → List ℕ → List ℕ → List ℕ → List ℕ → List ℕ → Room
 room_of up depth group mark batch machines links = record { up = up; tables = tables_of depth group mark; batch = batch; outputs = bytes_of machines links }
+
+-- the code's room, whose seven arrays have these lengths, is one of them
+abbrev pub as_room : code.Room → Room
+as_room r = room_of r.up r.depth r.group r.mark r.batch r.machines r.links
+
+-- with nothing in it
+abbrev pub empty : code.Room
+empty =
+    let machines = replicate most_machines 0 in
+    record { up = machines; depth = machines; group = machines; mark = machines; batch = replicate (2 * most_links) 0; machines = machines; links = machines }
 
 -- a reader that a file leads to counts no more than the slices hold, and whole links
 abbrev pub counts_fit : Reader → Bool

@@ -1,13 +1,13 @@
--- What the parts of the reader are to answer and to leave, and what they ask of the lengths of the lent slices.
+-- What the parts of the reader are to answer and to leave, and what they ask of the reader and of the lengths of lent slices.
 -- These are the contracts of private functions: the public calls do not cite them, so nothing here has to be believed.
-use Rattle.std.specs.Prelude.{◌≡◌, true, List, ℕ, ◌+◌, ◌*◌, ◌%◌, ◌^◌, ◌<◌, ◌≤◌, length, take}
+use Rattle.std.specs.Prelude.{◌≡◌, List, ℕ, ◌+◌, ◌*◌, ◌%◌, ◌^◌, ◌<◌, ◌≤◌, length, take}
 use Rattle.tables.specs.Tree.{most_machines, tree_verdict}
 use Rattle.tables.specs.Tables.{Tables, fresh}
 use Rattle.tables.specs.Batch.{most_links}
 use Rattle.tables.specs.declared.Answer.{Answer}
 use Rattle.tables.specs.Outcome.{Outcome, judged}
 use Rattle.sitefile.specs.File as file
-use Rattle.sitefile.specs.Next.{Room, counts_fit, read_of, laid_tables, step_over}
+use Rattle.sitefile.specs.Next.{Room, read_of, laid_tables, step_over}
 use Rattle.sitefile.specs.declared.Step.{Step}
 use Rattle.sitefile.specs.declared.Reader.{Reader}
 use Rattle.sitefile.specs.declared.due.Due.{Due}
@@ -33,30 +33,17 @@ pub record StartDue (n up depth group mark : ℕ) : Type 0 where
 abbrev pub start_front : ℕ → List ℕ → Tables → Outcome Answer Tables
 start_front n up t = judged (tree_verdict (take n up)) t n (laid_tables (fresh (take n up)) t)
 
--- what is due is done under: it is due, the counts fit, and the slices have room for any site
-pub record Doing (bytes : List ℕ) (r : Reader) (d : Due) (up depth group mark batch machines links : ℕ) : Type 0 where
-  pub is_due : d ≡ file.due_of bytes r
-  pub counts : counts_fit r ≡ true
-  pub in_up : up ≡ most_machines
-  pub in_depth : depth ≡ most_machines
-  pub in_group : group ≡ most_machines
-  pub in_mark : mark ≡ most_machines
-  pub in_batch : batch ≡ 2 * most_links
-  pub in_machines : machines ≡ most_machines
-  pub in_links : links ≡ most_machines
-
 -- what the records of kind 2, 3, 4 and 5 are read under
-pub record UplinkDue (bytes : List ℕ) (r : Reader) (up depth group mark : ℕ) : Type 0 where
+pub record UplinkDue (bytes : List ℕ) (r : Reader) : Type 0 where
   pub body : r.place + 3 ≤ length bytes
   pub more : r.ups < r.n
   pub few : r.n ≤ most_machines
-  pub fronts : Fronts r.n up depth group mark
 
-pub record LinkDue (bytes : List ℕ) (r : Reader) (batch : ℕ) : Type 0 where
+pub record LinkDue (bytes : List ℕ) (r : Reader) : Type 0 where
   pub body : r.place + 5 ≤ length bytes
-  pub inside : r.opened ≤ batch
-  pub size : batch ≡ 2 * most_links
+  pub inside : r.opened ≤ 2 * most_links
   pub pairs : r.opened % 2 ≡ 0
+  pub ups : r.ups ≤ most_machines
 
 pub record CloseDue (r : Reader) (up depth group mark batch : ℕ) : Type 0 where
   pub low : r.place + 1 < 2 ^ 64

@@ -7,6 +7,7 @@ use crate::{Reader, record};
 use tables::{Answer, Fault};
 
 // What the file asks for next.
+// Kept: neither Option nor Result is plainer for seven ways, five of them with a function of its own.
 #[derive(Clone, Copy)]
 pub enum Due {
     // The file ends as it may.
@@ -22,6 +23,7 @@ pub enum Due {
 }
 
 // Whether there is such a kind of record.
+// Kept: a match on the kind byte with a range for the unknown kinds, here, in `in_place` and in `asked`, is document 01's form for a body's length, and `due_of` asks by the byte.
 fn known(kind: u8) -> bool
     ensures { result ≡ known kind }
 {
@@ -35,20 +37,14 @@ fn known(kind: u8) -> bool
 fn grown(r: Reader) -> bool
     ensures { result ≡ grown r }
 {
-    if r.n == 0 {
-        return false;
-    }
-    r.ups == r.n
+    r.n > 0 && r.ups == r.n
 }
 
 // Whether every uplink is read, and no links are open.
 fn closed(r: Reader) -> bool
     ensures { result ≡ closed r }
 {
-    if !grown(r) {
-        return false;
-    }
-    r.opened == 0
+    grown(r) && r.opened == 0
 }
 
 // Whether a record of this kind may stand here.

@@ -1,29 +1,28 @@
-// One record of each kind, over the lent slices.
+// One record of each kind.
 ghost use Rattle.std.specs.Prelude.{◌≡◌, List, ℕ, ◌+◌, ◌≤◌, length};
 ghost use Rattle.tables.specs.Outcome.{outcome};
 ghost use Rattle.tables.specs.Tables.{tables_of};
-ghost use Rattle.sitefile.specs.Next.{Room, room_of};
-ghost use Rattle.sitefile.specs.Reading.{leads, StartDue, start_front, UplinkDue, LinkDue, CloseDue, ReportDue};
+ghost use Rattle.sitefile.specs.Next.{as_room, room_of};
+ghost use Rattle.sitefile.specs.Reading.{leads, start_front, StartDue, UplinkDue, LinkDue, CloseDue, ReportDue};
 
 use crate::due::Due;
-use crate::{Reader, Step, record};
+use crate::{Reader, Room, Step, record};
 use site::Site;
 use tables::{Answer, Verdict};
 
 // Kind 1: the number of machines.
 pub fn size(file: &[u8], r: Reader) -> Step
     requires { r.place + 3 ≤ length file.now }
-    ensures { (room : Room) → outcome result room ≡ leads file.now r Due.Size room }
+    ensures { (room : Room) → outcome result (as_room room) ≡ leads file.now r Due.Size (as_room room) }
 {
-    let place = r.place;
-    let body = record::body(file, place);
+    let body = record::body(file, r.place);
     let n = record::word(body, 0) as usize;
     let few = checks::size(n);
     let Verdict::Sound = few else {
         return Step::Refused(checks::answer(few, 0));
     };
     Step::Read(Reader {
-        place: place + 3,
+        place: r.place + 3,
         n,
         ups: 0,
         opened: 0,
@@ -31,6 +30,7 @@ pub fn size(file: &[u8], r: Reader) -> Step
 }
 
 // Start over the front parts of the tables.
+// Kept: slices and no room, here and for kinds 4 and 5: tried, and of a room's array whose part is lent the prover knows no value afterwards.
 fn start(up: &[u16], n: usize, depth: &mut [u16], group: &mut [u16], mark: &mut [u8]) -> Answer
     requires { StartDue n (length up.now) (length depth.old) (length group.old) (length mark.old) }
     ensures { outcome result (tables_of depth.new group.new mark.new)
@@ -40,61 +40,54 @@ fn start(up: &[u16], n: usize, depth: &mut [u16], group: &mut [u16], mark: &mut 
 }
 
 // Kind 2: the up of the next machine. Start runs after the last; where it refuses, the entry is put back.
-pub fn uplink(
-    file: &[u8],
-    r: Reader,
-    up: &mut [u16],
-    depth: &mut [u16],
-    group: &mut [u16],
-    mark: &mut [u8],
-) -> Step
-    requires { UplinkDue file.now r (length up.old) (length depth.old) (length group.old) (length mark.old) }
-    ensures { (batch machines links : List ℕ) → outcome result (room_of up.new depth.new group.new mark.new batch machines links)
-        ≡ leads file.now r Due.Uplink (room_of up.old depth.old group.old mark.old batch machines links) }
+pub fn uplink(file: &[u8], r: Reader, room: &mut Room) -> Step
+    requires { UplinkDue file.now r }
+    ensures { outcome result (as_room room.new) ≡ leads file.now r Due.Uplink (as_room room.old) }
 {
-    let place = r.place;
-    let n = r.n;
     let ups = r.ups;
-    let old = up[ups];
-    let body = record::body(file, place);
-    up[ups] = record::word(body, 0);
+    let old = room.up[ups];
+    let body = record::body(file, r.place);
+    room.up[ups] = record::word(body, 0);
     let next = Reader {
-        place: place + 3,
-        n,
+        place: r.place + 3,
         ups: ups + 1,
         opened: 0,
+        ..r
     };
-    if ups + 1 < n {
+    if next.ups < r.n {
         return Step::Read(next);
     }
-    let a = start(up, n, depth, group, mark);
+    let a = start(
+        &room.up,
+        r.n,
+        &mut room.depth,
+        &mut room.group,
+        &mut room.mark,
+    );
     if a.code == 0 {
         return Step::Read(next);
     }
-    up[ups] = old;
+    room.up[ups] = old;
     Step::Refused(a)
 }
 
 // Kind 3: a link, kept until its batch is closed.
-pub fn link(file: &[u8], r: Reader, batch: &mut [u16]) -> Step
-    requires { LinkDue file.now r (length batch.old) }
-    ensures { (up depth group mark machines links : List ℕ) → r.ups ≤ length up → outcome result (room_of up depth group mark batch.new machines links)
-        ≡ leads file.now r Due.Link (room_of up depth group mark batch.old machines links) }
+pub fn link(file: &[u8], r: Reader, room: &mut Room) -> Step
+    requires { LinkDue file.now r }
+    ensures { outcome result (as_room room.new) ≡ leads file.now r Due.Link (as_room room.old) }
 {
-    let place = r.place;
     let opened = r.opened;
     let most = checks::numbers(opened + 2);
     let Verdict::Sound = most else {
         return Step::Refused(checks::answer(most, 0));
     };
-    let body = record::body(file, place);
-    batch[opened] = record::word(body, 0);
-    batch[opened + 1] = record::word(body, 1);
+    let body = record::body(file, r.place);
+    room.batch[opened] = record::word(body, 0);
+    room.batch[opened + 1] = record::word(body, 1);
     Step::Read(Reader {
-        place: place + 5,
-        n: r.n,
-        ups: r.ups,
+        place: r.place + 5,
         opened: opened + 2,
+        ..r
     })
 }
 
@@ -111,22 +104,19 @@ pub fn close(
     ensures { (bytes machines links : List ℕ) → outcome result (room_of up.now depth.new group.new mark.new batch.now machines links)
         ≡ leads bytes r Due.Close (room_of up.now depth.old group.old mark.old batch.now machines links) }
 {
-    let behind = r.place + 1;
     let n = r.n;
-    let opened = r.opened;
     let a = Site::add(
         &up[..n],
         &mut depth[..n],
         &mut group[..n],
         &mut mark[..n],
-        &batch[..opened],
+        &batch[..r.opened],
     );
     if a.code == 0 {
         return Step::Read(Reader {
-            place: behind,
-            n,
-            ups: n,
+            place: r.place + 1,
             opened: 0,
+            ..r
         });
     }
     Step::Refused(a)
@@ -146,7 +136,6 @@ pub fn report(
     ensures { (bytes batch : List ℕ) → outcome result (room_of up.now depth.now group.now mark.now batch machines.new links.new)
         ≡ leads bytes r Due.Report (room_of up.now depth.now group.now mark.now batch machines.old links.old) }
 {
-    let behind = r.place + 1;
     let n = r.n;
     let a = Site::report(
         &up[..n],
@@ -158,10 +147,9 @@ pub fn report(
     );
     if a.code == 0 {
         return Step::Report(Reader {
-            place: behind,
-            n,
-            ups: n,
+            place: r.place + 1,
             opened: 0,
+            ..r
         });
     }
     Step::Refused(a)

@@ -4,6 +4,8 @@ ghost use Rattle.plain.specs.Table.{at};
 ghost use Rattle.sitefile.specs.Record.{body_length, body_of, word};
 
 // How many bytes the body of this kind has. An unknown kind has no body.
+// Kept: a match on the kind byte with a range for the unknown kinds is document 01's form.
+#[tactic(auto, unfolding(crate::specs::Record::body_length))]
 pub fn body_len(kind: u8) -> usize
     ensures { result ≡ body_length kind }
 {
@@ -32,10 +34,11 @@ pub fn body(file: &[u8], place: usize) -> &[u8]
 }
 
 // A byte of a body, 0 past its end.
+// Kept: 0 in place of None is what the definition `word` says.
 fn byte(body: &[u8], i: usize) -> u8
     ensures { result ≡ at body.now i }
 {
-    if i < body.len() { body[i] } else { 0 }
+    body.get(i).copied().unwrap_or(0)
 }
 
 // Number i of a body, the low byte first; what is past the end counts as 0. A place past the half is not doubled: it might not fit.
@@ -45,5 +48,5 @@ pub fn word(body: &[u8], i: usize) -> u16
     if body.len() / 2 < i {
         return 0;
     }
-    byte(body, 2 * i) as u16 + 256 * (byte(body, 2 * i + 1) as u16)
+    u16::from_le_bytes([byte(body, 2 * i), byte(body, 2 * i + 1)])
 }

@@ -2,42 +2,43 @@
 // definitions and the code share; there is no function here.
 #![tactic(auto)]
 
-// Why something is refused, in the order of the codes: 1 to 9 by the calls of a site, 10 to 13 by the site file, 14 and 27 by its writer.
+// Why something is refused, with its code: 1 to 9 by the calls of a site, 10 to 13 by the site file, 14 and 27 by its writer.
 #[derive(Clone, Copy)]
 pub enum Fault {
     // There is no machine, or there are too many.
-    Size,
+    Size = 1,
     // Another slice is not as long as up.
-    Slice,
+    Slice = 2,
     // An up entry is no machine.
-    Entry,
+    Entry = 3,
     // There is not exactly one hub.
-    Hubs,
+    Hubs = 4,
     // A machine never reaches the hub.
-    Stray,
+    Stray = 5,
     // A machine breaks a rule: no history leaves these tables.
-    Rule,
+    Rule = 6,
     // A batch has an odd length, or is too long.
-    Length,
+    Length = 7,
     // A link's end is no machine.
-    End,
+    End = 8,
     // A link joins a machine to itself.
-    Loop,
+    Loop = 9,
     // The file ends inside a record, before the last uplink, or with links not closed.
-    Cut,
+    Cut = 10,
     // There is no such kind of record.
-    Unknown,
+    Unknown = 11,
     // A record of a known kind is out of place.
-    Misplaced,
+    Misplaced = 12,
     // The file is too long.
-    Long,
+    Long = 13,
     // The buffer is shorter than the file.
-    Short,
+    Short = 14,
     // The batches' lengths don't go with the reports, or don't add up to the numbers lent.
-    Parts,
+    Parts = 27,
 }
 
 // What a check says: all is well, or why it is refused, and where.
+// Kept: document 01 names this form ("inner checks answer an enum, sound or refused with place"), and the definitions of the checks are of this type.
 #[derive(Clone, Copy)]
 pub enum Verdict {
     Sound,
@@ -45,6 +46,7 @@ pub enum Verdict {
 }
 
 // What a call answers: its code, and the value that goes with it.
+// Kept: document 01 names this form ("each call answers with a code and a value"), 0 for done.
 #[derive(Clone, Copy)]
 pub struct Answer {
     pub code: u16,

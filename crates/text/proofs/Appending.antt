@@ -1,14 +1,16 @@
--- Appending to a lent buffer. A text is stored byte by byte, so the stores of two texts, one behind the other, are those of both together;
+-- Appending to a page. A text is stored byte by byte, so the stores of two texts, one behind the other, are those of both together;
 -- where there is room for both, there is room for the second once the first is written.
 use mathlib.Core.Path.{◌≡◌, refl, sym, ap, subst, ◌∙◌}
 use mathlib.Core.List.{List, [], ◌∷◌, ◌++◌}
+use Rattle.std.specs.Prelude.{Some}
 use Prim.Native.Nat.{ℕ, suc, ◌+◌, ◌≤◌}
 use native.Mathlib.Omega.{arith}
 use lib.ListN.{length, set, length-append}
 use lib.Seq.{sets, length-sets}
 use Rattle.tables.specs.Outcome.{outcome}
 use Rattle.plain.specs.Laid.{laid}
-use Rattle.text.specs.Written.{Appends}
+use Rattle.text.specs.declared.Page.{Page}
+use Rattle.text.specs.Written.{Appends, HasRoom}
 use Rattle.plain.proofs.Laid.{laid_more}
 
 sets-append : (l : List ℕ) (i : ℕ) (s t : List ℕ) → sets l i (s ++ t) ≡ sets (sets l i s) (i + length s) t
@@ -17,39 +19,38 @@ sets-append l i (a ∷ s) t =
     let q : suc i + length s ≡ i + suc (length s) = omega arith in
     sets-append (set l i a) (suc i) s t ∙ ap (λ k. sets (sets (set l i a) (suc i) s) k t) q
 
-pub none_yet : (l : List ℕ) (i : ℕ) → Appends l i [] l i
-none_yet l i = record { bytes = refl; next = omega arith }
+pub none_yet : (p : Page) → Appends p [] p
+none_yet p = record { bytes = refl; next = omega arith; same = refl }
 
-pub size : {l m s : List ℕ} {i j : ℕ} → Appends l i s m j → length m ≡ length l
-size {l} {m} {s} {i} a = ap length a.bytes ∙ length-sets l i s
+pub size : {p q : Page} {s : List ℕ} → Appends p s q → length q.out.now ≡ length p.out.now
+size {p} {q} {s} a = ap length a.bytes ∙ length-sets p.out.now p.at s
 
 -- one text, then another
-pub then : {l m o s t : List ℕ} {i j k : ℕ} → Appends l i s m j → Appends m j t o k → Appends l i (s ++ t) o k
-then {l} {m} {o} {s} {t} {i} {j} {k} a b = record {
-  bytes = b.bytes ∙ ap (λ x. sets x j t) a.bytes ∙ ap (λ x. sets (sets l i s) x t) a.next ∙ sym (sets-append l i s t);
+pub then : {p q r : Page} {s t : List ℕ} → Appends p s q → Appends q t r → Appends p (s ++ t) r
+then {p} {q} {r} {s} {t} a b = record {
+  bytes = b.bytes ∙ ap (λ x. sets x q.at t) a.bytes ∙ ap (λ x. sets (sets p.out.now p.at s) x t) a.next ∙ sym (sets-append p.out.now p.at s t);
   next = omega (arith, a.next, b.next, length-append s t);
+  same = b.same ∙ a.same;
 }
 
-pub byte_then : {l m o t : List ℕ} {i j k a : ℕ} → Appends l i (a ∷ []) m j → Appends m j t o k → Appends l i (a ∷ t) o k
-byte_then p q = then p q
-
-pub room : {l m s : List ℕ} {i j : ℕ} (t : List ℕ) → i + length (s ++ t) ≤ length l → Appends l i s m j → j + length t ≤ length m
-room {l} {m} {s} t h a = omega (arith, h, a.next, size a, length-append s t)
+pub room : {p q : Page} {s : List ℕ} (t : List ℕ) → HasRoom p (s ++ t) → Appends p s q → HasRoom q t
+room {p} {q} {s} t h a = omega (arith, h, a.next, size a, length-append s t)
 
 -- room for the first of two
-pub room_first : (i n : ℕ) (s t : List ℕ) → i + length (s ++ t) ≤ n → i + length s ≤ n
-room_first i n s t h = omega (arith, h, length-append s t)
+pub room_first : (p : Page) (s t : List ℕ) → HasRoom p (s ++ t) → HasRoom p s
+room_first p s t h = omega (arith, h, length-append s t)
 
 -- the same text in other words
-pub reworded : {l m s t : List ℕ} {i j : ℕ} → s ≡ t → Appends l i s m j → Appends l i t m j
-reworded {l} {m} {s} {t} {i} {j} e a = subst (λ x. Appends l i x m j) e a
+pub reworded : {p q : Page} {s t : List ℕ} → s ≡ t → Appends p s q → Appends p t q
+reworded {p} {q} e a = subst (λ x. Appends p x q) e a
 
-pub room_reworded : (i n : ℕ) {s t : List ℕ} → s ≡ t → i + length s ≤ n → i + length t ≤ n
-room_reworded i n e h = subst (λ x. i + length x ≤ n) e h
+pub room_reworded : (p : Page) {s t : List ℕ} → s ≡ t → HasRoom p s → HasRoom p t
+room_reworded p e h = subst (λ x. HasRoom p x) e h
 
 -- a whole text from the front
-pub over_front : {l m s : List ℕ} {j : ℕ} → length s ≤ length l → Appends l 0 s m j → outcome j m ≡ outcome (length s) (laid s l)
-over_front {l} {m} {s} {j} h a =
-    let e : m ≡ laid s l = a.bytes ∙ laid_more l s 0 (omega arith) in
-    let n : j ≡ length s = omega (arith, a.next) in
+pub over_front : {p q : Page} {s : List ℕ} → p.at ≡ 0 → length s ≤ length p.out.now → Appends p s q → outcome (Some q.at) q.out.now ≡ outcome (Some (length s)) (laid s p.out.now)
+over_front {p} {q} {s} z h a =
+    let b : q.out.now ≡ sets p.out.now 0 s = a.bytes ∙ ap (λ i. sets p.out.now i s) z in
+    let e : q.out.now ≡ laid s p.out.now = b ∙ laid_more p.out.now s 0 (omega arith) in
+    let n : q.at ≡ length s = omega (arith, a.next) in
     rw (e, n)

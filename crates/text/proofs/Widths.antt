@@ -11,6 +11,8 @@ use mir.Syntax.{w8, w16}
 use mir.Val.{Fits}
 use Rattle.plain.specs.Table.{at}
 use Rattle.tables.specs.Tree.{most_machines}
+use Rattle.text.specs.declared.Page.{Page}
+use Rattle.text.specs.Written.{HasRoom}
 use Rattle.text.specs.Text.{decimal, line, line_for, lines, machine_line, machine_lines, uplink_line, uplink_lines}
 use Rattle.text.proofs.Digits.{length_places, length_below}
 
@@ -21,8 +23,8 @@ line-length c a b = omega (arith, length-append (decimal a) (32 ∷ (decimal b +
 pub any_line : (c a b : ℕ) → length (line c a b) ≤ 44
 any_line c a b = omega (arith, line-length c a b, length_places 20 a, length_places 20 b)
 
-pub line_room : (c a b place size : ℕ) → place + 44 ≤ size → place + length (line c a b) ≤ size
-line_room c a b place size h = omega (arith, any_line c a b)
+pub line_room : (c a b : ℕ) (p : Page) → p.at + 44 ≤ length p.out.now → HasRoom p (line c a b)
+line_room c a b p h = omega (arith, any_line c a b)
 
 -- where a has at most p + 1 digits and b at most q + 1
 line_width : (byte c a b p q : ℕ) → a < 10 ^ suc p → b < 10 ^ suc q → length (line_for byte c a b) ≤ 6 + p + q

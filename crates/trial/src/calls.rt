@@ -15,120 +15,83 @@ const MOST_LIST: usize = 65535;
 // A site may have so many letters.
 const MOST_LETTERS: usize = 64;
 
-fn add(
-    out: &impl Print,
-    from: &mut impl Read,
-    up: &[u16],
-    depth: &mut [u16],
-    group: &mut [u16],
-    mark: &mut [u8],
-) -> io::Result<()> {
-    let mut batch = [0u16; ROOM];
-    let b = read::list(from, &mut batch)?;
-    print::answer(out, b" add", Site::add(up, depth, group, mark, &batch[..b]))
+// The slices of a site, as the text has them.
+#[derive(Drop)]
+pub struct Slices<'a> {
+    pub up: &'a [u16],
+    pub depth: &'a mut [u16],
+    pub group: &'a mut [u16],
+    pub mark: &'a mut [u8],
+    pub machines: &'a mut [u8],
+    pub links: &'a mut [u8],
 }
 
-fn written(
-    out: &impl Print,
-    up: &[u16],
-    links: &[u16],
-    lengths: &[u16],
-    reports: &[u8],
-    buffer: &mut [u8],
-) -> io::Result<()> {
-    print::answer(
-        out,
-        b" write",
-        writer::write(up, links, lengths, reports, buffer),
-    )?;
-    print::bytes(out, b"; buffer", buffer)
-}
+// Kept: `out` and `from` side by side: a struct of both would need two type parameters, and has no fact of its own.
+impl Slices<'_> {
+    fn start(&mut self, out: &impl Print) -> io::Result<()> {
+        let given = Site::start(self.up, self.depth, self.group, self.mark);
+        print::answer(out, " start", given)
+    }
 
-fn write(out: &impl Print, from: &mut impl Read, up: &[u16]) -> io::Result<()> {
-    let mut links = [0u16; MOST_LIST];
-    let mut lengths = [0u16; MOST_LIST];
-    let mut reports = [0u8; MOST_LIST];
-    let mut buffer = [0u8; MOST_LIST];
-    let k = read::list(from, &mut links)?;
-    let b = read::list(from, &mut lengths)?;
-    let r = read::bytes(from, &mut reports)?;
-    let m = read::bytes(from, &mut buffer)?;
-    written(
-        out,
-        up,
-        &links[..k],
-        &lengths[..b],
-        &reports[..r],
-        &mut buffer[..m],
-    )
-}
+    fn add(&mut self, out: &impl Print, from: &mut impl Read) -> io::Result<()> {
+        let mut batch = [0u16; ROOM];
+        let batch = read::list(from, &mut batch)?;
+        let given = Site::add(self.up, self.depth, self.group, self.mark, batch);
+        print::answer(out, " add", given)
+    }
 
-fn show(
-    out: &impl Print,
-    depth: &[u16],
-    group: &[u16],
-    mark: &[u8],
-    machines: &[u8],
-    links: &[u8],
-) -> io::Result<()> {
-    print::table(out, b"; depths", depth)?;
-    print::table(out, b"; groups", group)?;
-    print::bytes(out, b"; marks", mark)?;
-    print::bytes(out, b"; machines", machines)?;
-    print::bytes(out, b"; links", links)
-}
+    fn report(&mut self, out: &impl Print) -> io::Result<()> {
+        // Named first, since the prover does not cover shared loans of several `&mut` fields in one call.
+        let (depth, group, mark) = (&mut *self.depth, &mut *self.group, &mut *self.mark);
+        let given = Site::report(self.up, depth, group, mark, self.machines, self.links);
+        print::answer(out, " report", given)
+    }
 
-fn one(
-    out: &impl Print,
-    from: &mut impl Read,
-    letter: u8,
-    up: &[u16],
-    depth: &mut [u16],
-    group: &mut [u16],
-    mark: &mut [u8],
-    machines: &mut [u8],
-    links: &mut [u8],
-) -> io::Result<()> {
-    if letter == b'S' {
-        print::answer(out, b" start", Site::start(up, depth, group, mark))
-    } else if letter == b'A' {
-        add(out, from, up, depth, group, mark)
-    } else if letter == b'R' {
-        print::answer(
-            out,
-            b" report",
-            Site::report(up, depth, group, mark, machines, links),
-        )
-    } else if letter == b'T' {
-        show(out, depth, group, mark, machines, links)
-    } else if letter == b'W' {
-        write(out, from, up)
-    } else if letter == b'\n' {
-        print::text(out, b"\n")
-    } else {
+    fn show(&self, out: &impl Print) -> io::Result<()> {
+        print::table(out, "; depths", self.depth)?;
+        print::table(out, "; groups", self.group)?;
+        print::table(out, "; marks", self.mark)?;
+        print::table(out, "; machines", self.machines)?;
+        print::table(out, "; links", self.links)
+    }
+
+    // Kept: arrays as long as a list can be, side by side, for `writer::write` is lent a slice each (document 02): fixed memory, no heap.
+    fn write(&self, out: &impl Print, from: &mut impl Read) -> io::Result<()> {
+        let mut links = [0u16; MOST_LIST];
+        let mut lengths = [0u16; MOST_LIST];
+        let mut reports = [0u8; MOST_LIST];
+        let mut buffer = [0u8; MOST_LIST];
+        let links = read::list(from, &mut links)?;
+        let lengths = read::list(from, &mut lengths)?;
+        let reports = read::list(from, &mut reports)?;
+        let buffer = read::list(from, &mut buffer)?;
+        let given = writer::write(self.up, links, lengths, reports, buffer);
+        print::answer(out, " write", given)?;
+        print::table(out, "; buffer", buffer)
+    }
+
+    // Kept: the letter is the byte that was read, and each names a call.
+    fn one(&mut self, out: &impl Print, from: &mut impl Read, letter: u8) -> io::Result<()> {
+        match letter {
+            b'S' => self.start(out),
+            b'A' => self.add(out, from),
+            b'R' => self.report(out),
+            b'T' => self.show(out),
+            b'W' => self.write(out, from),
+            b'\n' => println!(out),
+            _ => Ok(()),
+        }
+    }
+
+    // Every letter up to the bracket.
+    pub fn all(&mut self, out: &impl Print, from: &mut impl Read) -> io::Result<()> {
+        for _ in 0..MOST_LETTERS {
+            let letter = read::byte(from)?;
+            if letter == b']' {
+                break;
+            }
+            self.one(out, from, letter)?;
+        }
         Ok(())
     }
-}
-
-// Every letter up to the bracket.
-pub fn all(
-    out: &impl Print,
-    from: &mut impl Read,
-    up: &[u16],
-    depth: &mut [u16],
-    group: &mut [u16],
-    mark: &mut [u8],
-    machines: &mut [u8],
-    links: &mut [u8],
-) -> io::Result<()> {
-    let mut left = MOST_LETTERS;
-    while 0 < left {
-        left -= 1;
-        let letter = read::byte(from)?;
-        if letter == b']' {
-            return Ok(());
-        }
-        one(out, from, letter, up, depth, group, mark, machines, links)?;
-    }
-    Ok(())
 }

@@ -6,6 +6,7 @@ mod calls;
 mod print;
 mod read;
 
+use calls::Slices;
 use site::Site;
 use std::io;
 use std::io::Read;
@@ -17,6 +18,7 @@ const ROOM: usize = Site::MACHINES + 1;
 const MOST_BYTES: usize = 65536;
 
 // What follows a bracket: the lists of up, depth, group, mark, machine bytes and link bytes, and then the letters of what is done.
+// Kept: the six arrays stand side by side, since the calls of `Site` take a lent slice each (document 01), and memory is fixed.
 fn site(out: &impl Print, from: &mut impl Read) -> io::Result<()> {
     let mut up = [0u16; ROOM];
     let mut depth = [0u16; ROOM];
@@ -24,41 +26,31 @@ fn site(out: &impl Print, from: &mut impl Read) -> io::Result<()> {
     let mut mark = [0u8; ROOM];
     let mut machines = [0u8; ROOM];
     let mut links = [0u8; ROOM];
-    let u = read::list(from, &mut up)?;
-    let d = read::list(from, &mut depth)?;
-    let g = read::list(from, &mut group)?;
-    let m = read::bytes(from, &mut mark)?;
-    let o = read::bytes(from, &mut machines)?;
-    let l = read::bytes(from, &mut links)?;
-    calls::all(
-        out,
-        from,
-        &up[..u],
-        &mut depth[..d],
-        &mut group[..g],
-        &mut mark[..m],
-        &mut machines[..o],
-        &mut links[..l],
-    )
+    let mut slices = Slices {
+        up: read::list(from, &mut up)?,
+        depth: read::list(from, &mut depth)?,
+        group: read::list(from, &mut group)?,
+        mark: read::list(from, &mut mark)?,
+        machines: read::list(from, &mut machines)?,
+        links: read::list(from, &mut links)?,
+    };
+    slices.all(out, from)
 }
 
 // A byte outside brackets, or a whole site.
 fn item(out: &impl Print, from: &mut impl Read, byte: u8) -> io::Result<()> {
-    if byte == b'[' {
-        site(out, from)
-    } else {
-        print::text(out, &[byte])
+    match byte {
+        b'[' => site(out, from),
+        _ => out.write_all(&[byte]),
     }
 }
 
 fn main(rt: HostRuntime) -> io::Result<()> {
     let mut from = rt.reader();
-    let mut left = MOST_BYTES;
-    while 0 < left {
-        left -= 1;
+    for _ in 0..MOST_BYTES {
         let byte = read::byte(&mut from)?;
         if byte == 0 {
-            return Ok(());
+            break;
         }
         item(&rt, &mut from, byte)?;
     }

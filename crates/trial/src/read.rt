@@ -1,10 +1,31 @@
 // Bytes, numbers and lists, from a stream.
-ghost use Rattle.std.specs.Prelude.{◌≡◌, ◌≤◌, length, take, IfOk};
+ghost use Rattle.std.specs.Prelude.{◌≤◌, length, IfOk};
 
 use std::io;
 use std::io::Read;
 
-// A number, and the byte that ended it.
+// What a list holds, made of a number of the text.
+// Kept: a trait and no `From`, for a byte cuts its number off.
+pub trait Cell: Copy {
+    fn of(value: u16) -> Self;
+}
+
+impl Cell for u16 {
+    fn of(value: u16) -> u16 {
+        value
+    }
+}
+
+// A byte is the low half.
+impl Cell for u8 {
+    fn of(value: u16) -> u8 {
+        let [low, _] = value.to_le_bytes();
+        low
+    }
+}
+
+// A number, and the last byte that was read for it.
+// Kept: neither is a flag for the other, and both are always there.
 #[derive(Clone, Copy)]
 struct Entry {
     value: u16,
@@ -12,54 +33,44 @@ struct Entry {
 }
 
 // The next byte; 0 where the input has ended.
+// Kept: an Option is no plainer, for a zero byte ends a text too: main would have to name both, and the letters of a site would pass over both.
 pub fn byte(from: &mut impl Read) -> io::Result<u8> {
     let mut one = [0u8; 1];
     from.read(&mut one)?;
     Ok(one[0])
 }
 
-// A number as 16 bits have it; a greater one is the greatest.
-fn at_most(value: u32) -> u16 {
-    if value > 65535 { 65535 } else { value as u16 }
-}
-
-// A number of at most five digits.
+// A number of at most five digits, as 16 bits have it; a greater one is the greatest.
 fn number(from: &mut impl Read) -> io::Result<Entry> {
     let mut value: u32 = 0;
-    let mut left: usize = 6;
-    while 0 < left {
-        left -= 1;
-        let end = byte(from)?;
+    let mut end = 0;
+    for _ in 0..6 {
+        end = byte(from)?;
         let digit = end.wrapping_sub(b'0');
         if digit > 9 {
-            return Ok(Entry {
-                value: at_most(value),
-                end,
-            });
+            break;
         }
         value = value % 10000 * 10 + digit as u32;
     }
     Ok(Entry {
-        value: at_most(value),
-        end: 0,
+        value: u16::try_from(value).unwrap_or(u16::MAX),
+        end,
     })
 }
 
 // What follows in a list: after a comma a number of the text, after a plus one more, and else the same again.
 fn next(from: &mut impl Read, last: Entry) -> io::Result<Entry> {
-    if last.end == b',' {
-        return number(from);
-    }
-    if last.end == b'+' {
-        return Ok(Entry {
+    match last.end {
+        b',' => number(from),
+        b'+' => Ok(Entry {
             value: last.value.wrapping_add(1),
             end: last.end,
-        });
+        }),
+        _ => Ok(last),
     }
-    Ok(last)
 }
 
-// The length of a list; 0 where there is no room for it.
+// The length of a list. One with no room is empty: its length is 0.
 fn length(from: &mut impl Read, room: usize) -> io::Result<usize>
     ensures { IfOk result (λ n. n ≤ room) }
 {
@@ -67,41 +78,20 @@ fn length(from: &mut impl Read, room: usize) -> io::Result<usize>
     Ok(if n > room { 0 } else { n })
 }
 
-// A list into the front of `to`: its length, a colon, numbers with commas between, and a space. The last number stands for the rest of the length,
-// and with a plus for the space they count on: `4:0,5 ` is 0,5,5,5 and `4:0,5+` is 0,5,6,7. An empty list is `0 `.
-pub fn list(from: &mut impl Read, to: &mut [u16]) -> io::Result<usize>
-    ensures front { IfOk result (λ n. (n ≤ length to.new) × (n ≡ length (take n to.new))) }
-    ensures size { length to.new ≡ length to.old }
+// A list into the front of `to`, and that front: its length, a colon, numbers with commas between, and a space. The last number stands for the rest of
+// the length, and with a plus for the space they count on: `4:0,5 ` is 0,5,5,5 and `4:0,5+` is 0,5,6,7. An empty list is `0 `.
+pub fn list<'a, T: Cell>(from: &mut impl Read, to: &'a mut [T]) -> io::Result<&'a mut [T]>
+    ensures front { IfOk result (λ front. length front.now ≤ length to.old) }
 {
     let n = length(from, to.len())?;
+    let front = &mut to[..n];
     let mut last = Entry {
         value: 0,
         end: b',',
     };
-    let mut k = 0;
-    while k < n {
+    for place in front.iter_mut() {
         last = next(from, last)?;
-        to[k] = last.value;
-        k += 1;
+        *place = T::of(last.value);
     }
-    Ok(n)
-}
-
-// The same for bytes.
-pub fn bytes(from: &mut impl Read, to: &mut [u8]) -> io::Result<usize>
-    ensures front { IfOk result (λ n. (n ≤ length to.new) × (n ≡ length (take n to.new))) }
-    ensures size { length to.new ≡ length to.old }
-{
-    let n = length(from, to.len())?;
-    let mut last = Entry {
-        value: 0,
-        end: b',',
-    };
-    let mut k = 0;
-    while k < n {
-        last = next(from, last)?;
-        to[k] = (last.value % 256) as u8;
-        k += 1;
-    }
-    Ok(n)
+    Ok(front)
 }

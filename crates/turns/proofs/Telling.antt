@@ -24,7 +24,7 @@ use Rattle.turns.specs.declared.Turn.{Turn}
 use Rattle.turns.specs.declared.Turn.TheVariants as turns
 use Rattle.turns.specs.Printed.{most_bytes}
 use Rattle.turns.specs.Turn.{desk, told_by, turn_of, shown}
-use Rattle.turns.specs.Telling.{most_text, ShowDue, TellDue}
+use Rattle.turns.specs.Telling.{TellDue}
 
 pub record Further (file : List ℕ) (r r' : Reader) : Type 0 where
   pub further : r.place < r'.place
@@ -51,18 +51,11 @@ module _ (file : List ℕ) (r : Reader) (room : Room) where
       (λ e. rw e (over_tells ((says_fit r).gives e) (step_leads file (read_of r room))))
       (λ e. rw e tt)
 
-  -- a report is on machines that the slices have
-  module _ {s : Step} {room' : Room} (e : outcome s room' ≡ next_of file r room) {up machines links text : ℕ}
-      (u : up ≡ most_machines) (m : machines ≡ most_machines) (l : links ≡ most_machines) (x : text ≡ most_text) where
-    on_slices : (r' : Reader) → s ≡ steps.Report r' → ShowDue r'.n up machines links text
+  -- a report is on no more machines than the arrays have
+  module _ {s : Step} {room' : Room} (e : outcome s room' ≡ next_of file r room) where
+    pub tell_due : TellDue s
     unfolding StepTells
-    on_slices r' q =
-        let t : StepTells file r (steps.Report r') = subst (λ s. StepTells file r s) (sym (ap (λ o. o.answer) e) ∙ q) next_tells in
-        let few = t.1 in
-        record { few = few; in_up = omega arith; in_machines = omega arith; in_links = omega arith; space = omega arith }
-
-    pub tell_due : TellDue s up machines links text
-    tell_due = record { space = omega arith; shows = on_slices }
+    tell_due r' q = let t : StepTells file r (steps.Report r') = subst (λ s. StepTells file r s) (sym (ap (λ o. o.answer) e) ∙ q) next_tells in t.1
 
 -- what a turn tells
 unfoldable TurnTells : List ℕ → Reader → Turn → ℕ → Type 0

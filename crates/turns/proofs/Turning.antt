@@ -1,81 +1,84 @@
--- A turn as the code takes it: 13 first, and then what the next record came to, in text.
-use mathlib.Core.Path.{◌≡◌, refl, ap}
+-- A turn as the code takes it: 13 first, and then what the next record came to, in text. The desk's text has room for any.
+use mathlib.Core.Path.{◌≡◌, refl, sym, ap, ◌∙◌}
 use mathlib.Core.Bool.{true}
 use mathlib.Core.List.{List}
 use Prim.Native.Nat.{ℕ, ◌+◌, ◌*◌, ◌≤◌, ◌<◌}
 use native.Mathlib.Omega.{arith}
-use lib.ListN.{length, take}
+use lib.ListN.{length, replicate, take}
 use lib.Seq.{length-take-le}
 use borrow.Author.Tests.{lt-ltb, le-ltb, le-leb, eq-eqb}
+use Rattle.std.specs.Prelude.{Option, Some, IsSome}
 use Rattle.tables.specs.declared.Answer.{Answer}
 use Rattle.tables.specs.declared.Fault.{Fault}
 use Rattle.tables.specs.Tree.{most_machines}
 use Rattle.tables.specs.Answer.{refusal}
 use Rattle.tables.specs.Outcome.{Outcome, outcome}
 use Rattle.text.specs.Text.{refusal_text}
-use Rattle.text.specs.Written.{written, refusal_written, report_fits, report_written}
+use Rattle.text.specs.Written.{written, refusal_written, report_written}
+use Rattle.text.specs.Written as fits
 use Rattle.sitefile.specs.declared.Reader.{Reader}
 use Rattle.sitefile.specs.declared.Step.{Step}
-use Rattle.sitefile.specs.declared.Step.TheVariants as steps
-use Rattle.sitefile.specs.Next.{Room, room_of, next_of}
+use Rattle.sitefile.specs.declared.Room as code
+use Rattle.sitefile.specs.Next.{Room, as_room, empty, next_of}
+use Rattle.turns.specs.declared.Desk as code_desk
 use Rattle.turns.specs.declared.Turn.{Turn}
 use Rattle.turns.specs.declared.Turn.TheVariants as turns
 use Rattle.turns.specs.Printed.{most_bytes}
-use Rattle.turns.specs.Turn.{Desk, desk, told_by, turn_of}
-use Rattle.turns.specs.Telling.{most_text, ShowDue, showing, TellDue}
+use Rattle.turns.specs.Turn.{Desk, desk, most_text, bare, more, last, shown, told_by, turn_of}
 
--- there is room for the text of a report
-pub shows : {k : ℕ} {text' : List ℕ} (n : ℕ) (up machines links text : List ℕ) → ShowDue n (length up) (length machines) (length links) (length text)
-    → outcome k text' ≡ report_written (take n up) (take n machines) (take n links) text → outcome k text' ≡ showing n up machines links text
-unfolding report_written
-shows n up machines links text d e =
-    let u = length-take-le n up d.in_up in
-    let m = length-take-le n machines d.in_machines in
-    let l = length-take-le n links d.in_links in
-    let f : report_fits (length (take n up)) (length (take n machines)) (length (take n links)) (length text) ≡ true =
-    rw (u, m, l, le-leb n most_machines d.few, eq-eqb n n refl, le-leb (24 * n + 64) (length text) (omega (arith, d.few, d.space))) in
-    rw f at e
+abbrev over : code.Room → code_desk.Desk
+over room = record { room = room; text = replicate most_text 0 }
 
--- and for that of a refusal
-refusal_fits : {k : ℕ} {text' : List ℕ} (a : Answer) (text : List ℕ) → most_text ≤ length text
-    → outcome k text' ≡ refusal_written a text → outcome k text' ≡ written true (refusal_text a) text
-unfolding refusal_written
-refusal_fits a text h e = rw (le-leb 64 (length text) (omega arith)) at e
+pub bare_is : {room : code.Room} → room ≡ empty → over room ≡ bare
+bare_is e = ap over e
 
-pub show_due : {s : Step} {up machines links text : ℕ} {r : Reader} → TellDue s up machines links text → s ≡ steps.Report r → ShowDue r.n up machines links text
-show_due d e = d.shows _ e
+-- what is written where there is room
+module _ (bytes text : List ℕ) {o : Option ℕ} {text' : List ℕ} (e : outcome o text' ≡ written true bytes text) where
+  there : IsSome o
+  there = rw (ap (λ x. x.answer) e) refl
 
--- what a step comes to, in text
-module _ (up depth group mark batch machines links text : List ℕ) where
-  abbrev room : Room
-  room = room_of up depth group mark batch machines links
+  length_is : {k : ℕ} → o ≡ Some k → k ≡ length bytes
+  length_is q = let z = sym q ∙ ap (λ x. x.answer) e in cc
 
-  module _ {s : Step} where
-    pub told_read : {r : Reader} → s ≡ steps.Read r → outcome (turns.More r 0) (desk room text) ≡ told_by s room text
-    told_read e = rw e
+-- there is room for the text of a refusal
+module _ (a : Answer) (text : List ℕ) (t : length text ≡ most_text) {o : Option ℕ} {text' : List ℕ} (e : outcome o text' ≡ refusal_written a text) where
+  refusal_in : outcome o text' ≡ written true (refusal_text a) text
+  unfolding refusal_written
+  refusal_in = rw (le-leb 64 (length text) (omega arith)) at e
 
-    pub told_end : s ≡ steps.End → outcome (turns.Done 0) (desk room text) ≡ told_by s room text
-    told_end e = rw e
+  pub refusal_fits : IsSome o
+  refusal_fits = there _ _ refusal_in
 
-    pub told_unfit : s ≡ steps.Unfit → outcome turns.Unfit (desk room text) ≡ told_by s room text
-    told_unfit e = rw e
+  pub refusal_told : {k : ℕ} (room : Room) → o ≡ Some k → outcome (turns.Done k) (desk room text') ≡ last (refusal_text a) room text
+  refusal_told room q = rw (length_is _ _ refusal_in q, ap (λ x. x.lent) refusal_in)
 
-    pub told_report : {r : Reader} {k : ℕ} {text' : List ℕ} → s ≡ steps.Report r → outcome k text' ≡ showing r.n up machines links text
-        → outcome (turns.More r k) (desk room text') ≡ told_by s room text
-    told_report {r} e w = rw e (ap (λ o. outcome (turns.More r o.answer) (desk room o.lent)) w)
+-- and for that of a report
+module _ (r : Reader) (room : code.Room) (text : List ℕ) (few : r.n ≤ most_machines) (u : length room.up ≡ most_machines)
+    (m : length room.machines ≡ most_machines) (l : length room.links ≡ most_machines) (t : length text ≡ most_text) {o : Option ℕ} {text' : List ℕ}
+    (e : outcome o text' ≡ report_written (take r.n room.up) (take r.n room.machines) (take r.n room.links) text) where
+  report_in : outcome o text' ≡ written true (shown r (as_room room)) text
+  unfolding report_written
+  report_in =
+      let n = r.n in
+      let up = take n room.up in
+      let machines = take n room.machines in
+      let links = take n room.links in
+      let f : fits.report_fits (length up) (length machines) (length links) (length text) ≡ true =
+      rw (length-take-le n room.up (omega arith), length-take-le n room.machines (omega arith), length-take-le n room.links (omega arith), le-leb n most_machines few, eq-eqb n n refl, le-leb (24 * n + 64) (length text) (omega arith)) in
+      rw f at e
 
-    pub told_refused : {a : Answer} {k : ℕ} {text' : List ℕ} → s ≡ steps.Refused a → TellDue s (length up) (length machines) (length links) (length text)
-        → outcome k text' ≡ refusal_written a text → outcome (turns.Done k) (desk room text') ≡ told_by s room text
-    told_refused {a} e d w = rw e (ap (λ o. outcome (turns.Done o.answer) (desk room o.lent)) (refusal_fits a text d.space w))
+  pub report_fits : IsSome o
+  report_fits = there _ _ report_in
+
+  pub report_told : {k : ℕ} → o ≡ Some k → outcome (turns.More r k) (desk (as_room room) text') ≡ more (shown r (as_room room)) r (as_room room) text
+  report_told q = rw (length_is _ _ report_in q, ap (λ x. x.lent) report_in)
 
 -- the tests of a turn, in their order
 module _ (file : List ℕ) (r : Reader) (room : Room) (text : List ℕ) where
-  pub turn_long : {a : Answer} {k : ℕ} {text' : List ℕ} → most_bytes < length file → length text ≡ most_text → a ≡ refusal Fault.Long most_bytes → outcome k text' ≡ refusal_written a text
-      → outcome (turns.Done k) (desk room text') ≡ turn_of file r (desk room text)
+  pub turn_long : {a : Answer} {o : Outcome Turn Desk} → most_bytes < length file → a ≡ refusal Fault.Long most_bytes → o ≡ last (refusal_text a) room text
+      → o ≡ turn_of file r (desk room text)
   unfolding turn_of
-  turn_long h s q e =
-      rw (lt-ltb most_bytes (length file) h)
-      (ap (λ o. outcome (turns.Done o.answer) (desk room o.lent)) (refusal_fits (refusal Fault.Long most_bytes) text (omega arith) (rw q at e)))
+  turn_long h q e = rw (lt-ltb most_bytes (length file) h) (rw q at e)
 
   pub turn_taken : {s : Step} {room' : Room} {o : Outcome Turn Desk} → length file ≤ most_bytes → outcome s room' ≡ next_of file r room → o ≡ told_by s room' text
       → o ≡ turn_of file r (desk room text)

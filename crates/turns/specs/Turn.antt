@@ -1,8 +1,9 @@
 -- One turn of the program: the next record of a file over lent slices, and what it prints laid over the front of a lent buffer. And what a loop
 -- over the turns writes.
-use Rattle.std.specs.Prelude.{◌≡◌, cond, List, [], ◌++◌, ℕ, zero, suc, ◌<◌, length, take, ltb}
+use Rattle.std.specs.Prelude.{◌≡◌, cond, List, [], ◌++◌, ℕ, zero, suc, ◌+◌, ◌*◌, ◌<◌, length, replicate, take, ltb}
 use Rattle.plain.specs.Laid.{laid}
 use Rattle.tables.specs.declared.Fault.{Fault}
+use Rattle.tables.specs.Tree.{most_machines}
 use Rattle.tables.specs.Answer.{refusal}
 use Rattle.tables.specs.Report.{bytes_of}
 use Rattle.tables.specs.Outcome.{Outcome, outcome}
@@ -11,7 +12,8 @@ use Rattle.sitefile.specs.declared.Reader.{Reader}
 use Rattle.sitefile.specs.declared.Step.{Step}
 use Rattle.sitefile.specs.declared.Step.TheVariants as steps
 use Rattle.sitefile.specs.File.{begin, reader_of}
-use Rattle.sitefile.specs.Next.{Room, next_of}
+use Rattle.sitefile.specs.Next.{Room, as_room, empty, next_of}
+use Rattle.turns.specs.declared.Desk as code
 use Rattle.turns.specs.declared.Turn.{Turn}
 use Rattle.turns.specs.declared.Turn.TheVariants as turns
 use Rattle.turns.specs.Printed.{most_bytes, printed}
@@ -23,6 +25,18 @@ pub record Desk : Type 0 where
 
 abbrev pub desk : Room → List ℕ → Desk
 desk room text = record { room = room; text = text }
+
+-- the code's desk, whose arrays have their lengths, is one of them
+abbrev pub as_desk : code.Desk → Desk
+as_desk d = desk (as_room d.room) d.text
+
+-- so many bytes are room for the text of any report, and of any refusal
+abbrev pub most_text : ℕ
+most_text = 24 * most_machines + 64
+
+-- with nothing on it
+abbrev pub bare : code.Desk
+bare = record { room = empty; text = replicate most_text 0 }
 
 -- these bytes are printed, and there is more; or they are the last: they stand over the front of the buffer, and their number is told
 abbrev pub more : List ℕ → Reader → Room → List ℕ → Outcome Turn Desk

@@ -2,21 +2,43 @@
 // turn, as many bytes of the buffer as the turn told writes what is printed for the file: `Printing` of specs/Turn.antt.
 #![tactic(auto)]
 
-ghost use Rattle.std.specs.Prelude.{◌≡◌, List, ℕ, length};
+ghost use Rattle.std.specs.Prelude.{◌≡◌, ◌≤◌};
+ghost use Rattle.tables.specs.Tree.{most_machines};
 ghost use Rattle.tables.specs.Outcome.{outcome};
+ghost use Rattle.text.specs.Text.{refusal_text};
 ghost use Rattle.sitefile.specs.File.{begin, reader_of};
-ghost use Rattle.sitefile.specs.Next.{room_of};
-ghost use Rattle.turns.specs.Turn.{desk, told_by, turn_of};
-ghost use Rattle.turns.specs.Telling.{ShowDue, showing, TellDue};
+ghost use Rattle.sitefile.specs.Next.{as_room};
+ghost use Rattle.turns.specs.Turn.{as_desk, bare, desk, last, more, shown, told_by, turn_of};
+ghost use Rattle.turns.specs.Telling.{TellDue};
 
-use site::Site;
-use sitefile::{Reader, Step, read};
-use tables::Fault;
+use sitefile::{Reader, Room, Step, read};
+use tables::{Answer, Fault};
 
 // A site file has at most so many bytes.
 pub const MOST_BYTES: usize = 16384;
 
+// What a turn is lent: what the file is read into, and the buffer of the text, with room for any report and any refusal.
+// Kept: an array beside the room's: fixed memory, no heap.
+#[derive(Drop)]
+pub struct Desk {
+    pub room: Room,
+    pub text: [u8; text::MOST_TEXT],
+}
+
+impl Desk {
+    // A desk with nothing on it. One serves file after file: a turn fills what it reads.
+    pub fn new() -> Desk
+        ensures { result ≡ bare }
+    {
+        Desk {
+            room: Room::new(),
+            text: [0; text::MOST_TEXT],
+        }
+    }
+}
+
 // What a turn comes to.
+// Kept: neither Option nor Result is plainer, since two of the three ways come with a text, and only one of them goes on.
 #[derive(Clone, Copy)]
 pub enum Turn {
     // So many bytes of text, and there is more, from this reader on.
@@ -39,57 +61,44 @@ pub fn first() -> Reader
     }
 }
 
-// The text of the report on the first n machines.
-fn show(n: usize, up: &[u16], machines: &[u8], links: &[u8], text: &mut [u8]) -> usize
-    requires { ShowDue n (length up.now) (length machines.now) (length links.now) (length text.old) }
-    ensures { outcome result text.new ≡ showing n up.now machines.now links.now text.old }
+// The text of the report that stands in the outputs.
+fn show(next: Reader, room: &Room, text: &mut [u8; text::MOST_TEXT]) -> Turn
+    requires { next.n ≤ most_machines }
+    ensures { outcome result (desk (as_room room.now) text.new) ≡ more (shown next (as_room room.now)) next (as_room room.now) text.old }
 {
-    text::report(&up[..n], &machines[..n], &links[..n], text)
+    let n = next.n;
+    let k = text::report(&room.up[..n], &room.machines[..n], &room.links[..n], text).unwrap();
+    Turn::More(next, k)
+}
+
+// The text of a refusal, which is the last.
+fn refuse(refusal: Answer, desk: &mut Desk) -> Turn
+    ensures { outcome result (as_desk desk.new) ≡ last (refusal_text refusal) (as_room desk.old.room) desk.old.text }
+{
+    Turn::Done(text::refusal(refusal, &mut desk.text).unwrap())
 }
 
 // What the next record came to, with its text.
-fn tell(step: Step, up: &[u16], machines: &[u8], links: &[u8], text: &mut [u8]) -> Turn
-    requires { TellDue step (length up.now) (length machines.now) (length links.now) (length text.old) }
-    ensures { (depth group mark batch : List ℕ)
-        → outcome result (desk (room_of up.now depth group mark batch machines.now links.now) text.new)
-        ≡ told_by step (room_of up.now depth group mark batch machines.now links.now) text.old }
+fn tell(step: Step, desk: &mut Desk) -> Turn
+    requires { TellDue step }
+    ensures { outcome result (as_desk desk.new) ≡ told_by step (as_room desk.old.room) desk.old.text }
 {
     match step {
         Step::Read(next) => Turn::More(next, 0),
-        Step::Report(next) => {
-            let n = next.n;
-            let k = show(n, up, machines, links, text);
-            Turn::More(next, k)
-        }
+        Step::Report(next) => show(next, &desk.room, &mut desk.text),
         Step::End => Turn::Done(0),
-        Step::Refused(refusal) => {
-            let k = text::refusal(refusal, text);
-            Turn::Done(k)
-        }
+        Step::Refused(refusal) => refuse(refusal, desk),
         Step::Unfit => Turn::Unfit,
     }
 }
 
-// Takes the next record of a site file, and lays what it prints over the front of the text.
-pub fn take(
-    file: &[u8],
-    r: Reader,
-    up: &mut [u16; Site::MACHINES],
-    depth: &mut [u16; Site::MACHINES],
-    group: &mut [u16; Site::MACHINES],
-    mark: &mut [u8; Site::MACHINES],
-    batch: &mut [u16; 2 * Site::LINKS],
-    machines: &mut [u8; Site::MACHINES],
-    links: &mut [u8; Site::MACHINES],
-    text: &mut [u8; text::MOST_TEXT],
-) -> Turn
-    ensures { outcome result (desk (room_of up.new depth.new group.new mark.new batch.new machines.new links.new) text.new)
-        ≡ turn_of file.now r (desk (room_of up.old depth.old group.old mark.old batch.old machines.old links.old) text.old) }
+// Takes the next record of a site file, and lays what it prints over the front of the desk's text.
+pub fn take(file: &[u8], r: Reader, desk: &mut Desk) -> Turn
+    ensures { outcome result (as_desk desk.new) ≡ turn_of file.now r (as_desk desk.old) }
 {
     if MOST_BYTES < file.len() {
-        let k = text::refusal(checks::refusal(Fault::Long, MOST_BYTES), text);
-        return Turn::Done(k);
+        return refuse(checks::refusal(Fault::Long, MOST_BYTES), desk);
     }
-    let step = read::next(file, r, up, depth, group, mark, batch, machines, links);
-    tell(step, up, machines, links, text)
+    let step = read::next(file, r, &mut desk.room);
+    tell(step, desk)
 }

@@ -33,9 +33,6 @@ pub parts_told : {c : Verdict} (numbers : ℕ) (lengths : List ℕ) (reports : �
 unfolding parts_verdict
 parts_told numbers lengths reports e q = (says_and (says_eq reports (length lengths)) (says_eq (total lengths) numbers)).gives (unless_sound _ _ _ (told e q))
 
-pub same_sum : {c : Verdict} (numbers : ℕ) (lengths : List ℕ) (reports : ℕ) → c ≡ Sound → c ≡ parts_verdict numbers lengths reports → total lengths ≡ numbers
-same_sum numbers lengths reports e q = (parts_told numbers lengths reports e q).1
-
 -- the batches pass exactly where each of them does
 batches_told : (n : ℕ) (plan : List Part) → batches_verdict n plan ≡ Sound → history.Accepted n (batches_of plan)
 unfolding batches_verdict

@@ -2,12 +2,14 @@
 -- free part leaves less to write, and nothing left is the whole.
 use mathlib.Core.Path.{◌≡◌, refl, sym, ap, ◌∙◌}
 use mathlib.Core.List.{List, [], ◌∷◌, ◌++◌, append-nil, append_assoc}
-use Prim.Native.Nat.{ℕ, ◌+◌, ◌-◌, ◌/◌, ◌%◌, ◌^◌, ◌<◌, ◌≤◌}
+use Prim.Native.Nat.{ℕ, suc, ◌+◌, ◌*◌, ◌-◌, ◌/◌, ◌%◌, ◌^◌, ◌<◌, ◌≤◌}
 use native.Mathlib.Omega.{arith}
-use lib.ListN.{length, take, drop, set, length-append, length-drop, drop_of_length-le, take-append-drop}
-use lib.Seq.{length-take-le, take_all, take_at, drop_at, drop-drop, sets}
+use lib.ListN.{length, take, drop, set, length-set, length-append, length-drop, drop_of_length-le, take-append-drop}
+use lib.Seq.{length-take-le, take_all, take_at, drop_at, drop-drop, drop-set-lt}
+use Rattle.std.proofs.lemmas.List.{take_more_set}
 use Rattle.plain.specs.Laid.{laid}
-use Rattle.plain.proofs.Laid.{laid_more}
+use Rattle.plain.specs.Table.{at}
+use Rattle.plain.proofs.Loops.{from_next}
 use Rattle.sitefile.specs.Record.{words, record_of}
 use Rattle.writer.specs.Filling.{Fills}
 
@@ -17,9 +19,6 @@ pub record Writing (whole rest before now : List ℕ) (place : ℕ) : Type 0 whe
   pub size : length now ≡ length before
   pub room : length whole ≤ length before
   pub left : take place now ++ laid rest (drop place now) ≡ laid whole before
-
-pub begun : (whole before : List ℕ) → length whole ≤ length before → Writing whole whole before before 0
-begun whole before h = record { next = omega arith; size = refl; room = h; left = refl }
 
 -- the part of the buffer that is still free, as it is lent; and the buffer once this part is back
 abbrev pub free : ℕ → List ℕ → List ℕ
@@ -40,9 +39,6 @@ module _ {whole left before now : List ℕ} {place : ℕ} (w : Writing whole lef
   piece_room = omega (arith, inside, ap length (free_is place now), length-drop place now)
 
   module _ {part : List ℕ} {k : ℕ} (f : Fills piece (free place now) part k) where
-    pub piece_fits : length before < 2 ^ 64 → place + k < 2 ^ 64
-    piece_fits b = omega (arith, inside, w.size, f.number)
-
     came : back place now part ≡ (take place now ++ piece) ++ drop (length piece) (drop place now)
     came =
         let e : drop (length now - place) (drop place now) ≡ [] = drop_of_length-le (drop place now) {i = length now - place} (omega (arith, length-drop place now)) in
@@ -72,21 +68,6 @@ all_written {whole} {left} {before} {now} {place} w e =
     let l : take place now ++ laid [] (drop place now) ≡ laid whole before = rw e at w.left in
     record { filled = sym (take-append-drop place now) ∙ l; number = omega (arith, w.next, ap length e) }
 
--- the last piece is all that is left
-module _ {whole piece before now : List ℕ} {place : ℕ} (w : Writing whole piece before now place) where
-  pub last_inside : place ≤ length now
-  last_inside = omega (arith, w.next, w.size, w.room)
-
-  pub last_room : length piece ≤ length (free place now)
-  last_room = piece_room w piece [] (sym (append-nil piece))
-
-  module _ {part : List ℕ} {k : ℕ} (f : Fills piece (free place now) part k) where
-    pub last_fits : length before < 2 ^ 64 → place + k < 2 ^ 64
-    last_fits b = piece_fits w piece [] (sym (append-nil piece)) f b
-
-    pub last_written : Fills whole before (back place now part) (place + k)
-    last_written = all_written (piece_next w piece [] (sym (append-nil piece)) f) refl
-
 -- two pieces: the first goes into the whole buffer, the second behind it
 pub first_room : (piece rest l : List ℕ) → length (piece ++ rest) ≤ length l → length piece ≤ length l
 first_room piece rest l h = omega (arith, h, length-append piece rest)
@@ -104,32 +85,60 @@ module _ (piece rest : List ℕ) {before now : List ℕ} {k : ℕ} (h : length (
             (sym (append_assoc piece rest (drop (length rest) y)) ∙ ap (λ l. (piece ++ rest) ++ l) (drop-drop (length rest) (length piece) before ∙ ap (λ n. drop n before) (sym (length-append piece rest))));
       }
 
-  pub second_inside : k ≤ length now
-  second_inside = last_inside first_written
-
   pub second_room : length rest ≤ length (free k now)
-  second_room = last_room first_written
+  second_room = piece_room first_written rest [] (sym (append-nil rest))
 
   module _ {part : List ℕ} {m : ℕ} (g : Fills rest (free k now) part m) where
-    pub second_fits : length before < 2 ^ 64 → k + m < 2 ^ 64
-    second_fits b = last_fits first_written g b
-
     pub second_done : Fills (piece ++ rest) before (back k now part) (k + m)
-    second_done = last_written first_written g
+    second_done = all_written (piece_next first_written rest [] (sym (append-nil rest)) g) refl
 
--- the bytes of a record, stored one by one
-stored : (bytes l : List ℕ) → length bytes ≤ length l → sets l 0 bytes ≡ laid bytes l
-stored bytes l h = laid_more l bytes 0 (omega arith)
+-- one byte is stored
+module _ {whole rest before now : List ℕ} {place b : ℕ} (w : Writing whole (b ∷ rest) before now place) where
+  byte_inside : place < length now
+  byte_inside = omega (arith, w.next, w.size, w.room)
 
-pub bare_filled : (kind : ℕ) (l : List ℕ) → 1 ≤ length l → Fills (record_of kind []) l (set l 0 kind) 1
-unfolding words
-bare_filled kind l h = record { filled = stored (kind ∷ []) l h; number = refl }
+  byte_stored : Writing whole rest before (set now place b) (place + 1)
+  byte_stored =
+      let e : drop (place + 1) (set now place b) ≡ drop (place + 1) now = drop-set-lt (place + 1) now place b (omega arith) in
+      let n : place + 1 + length rest ≡ place + suc (length rest) = omega arith in
+      let d : drop (length rest) (drop (place + 1) now) ≡ drop (suc (length rest)) (drop place now) =
+      drop-drop (length rest) (place + 1) now ∙ ap (λ n. drop n now) n ∙ sym (drop-drop (suc (length rest)) place now) in
+      record {
+        next = omega (arith, w.next);
+        size = length-set now place b ∙ w.size;
+        room = w.room;
+        left = rw (take_more_set now place b byte_inside, e) (append_assoc (take place now) (b ∷ []) (laid rest (drop (place + 1) now)) ∙ ap (λ l. take place now ++ (b ∷ (rest ++ l))) d ∙ w.left);
+      }
 
-pub one_filled : (kind n : ℕ) {lo hi : ℕ} (l : List ℕ) → 3 ≤ length l → lo ≡ n % 256 → hi ≡ n / 256 → Fills (record_of kind (n ∷ [])) l (set (set (set l 0 kind) 1 lo) 2 hi) 3
-unfolding words
-one_filled kind n l h p q = rw (p, q) (record { filled = stored (kind ∷ n % 256 ∷ n / 256 ∷ []) l h; number = refl })
+-- of a record of n numbers those from i on are still to be written
+pub record NumbersLeft (n kind : ℕ) (numbers before now : List ℕ) (i : ℕ) : Type 0 where
+  pub all : length numbers ≡ n
+  pub left : Writing (record_of kind numbers) (words (drop i numbers)) before now (1 + 2 * i)
 
-pub two_filled : (kind a b : ℕ) {alo ahi blo bhi : ℕ} (l : List ℕ) → 5 ≤ length l → alo ≡ a % 256 → ahi ≡ a / 256 → blo ≡ b % 256 → bhi ≡ b / 256
-    → Fills (record_of kind (a ∷ b ∷ [])) l (set (set (set (set (set l 0 kind) 1 alo) 2 ahi) 3 blo) 4 bhi) 5
-unfolding words
-two_filled kind a b l h p q r s = rw (p, q, r, s) (record { filled = stored (kind ∷ a % 256 ∷ a / 256 ∷ b % 256 ∷ b / 256 ∷ []) l h; number = refl })
+module _ {n kind i : ℕ} {numbers before now : List ℕ} (l : NumbersLeft n kind numbers before now i) where
+  pub numbers_done : n ≤ i → i ≤ n → Fills (record_of kind numbers) before now (1 + 2 * n)
+  unfolding words
+  numbers_done h k =
+      let e : i ≡ n = omega arith in
+      rw (← e) (all_written l.left (ap words (drop_of_length-le numbers (omega (arith, l.all)))))
+
+  module _ (h : i < n) where
+    here : Writing (record_of kind numbers) (at numbers i % 256 ∷ at numbers i / 256 ∷ words (drop (i + 1) numbers)) before now (1 + 2 * i)
+    unfolding words
+    here = let w = l.left in rw (from_next numbers i (omega (arith, l.all))) at w
+
+    pub low_inside : 1 + 2 * i < length now
+    low_inside = byte_inside here
+
+    behind : (low : ℕ) → low ≡ at numbers i % 256 → Writing (record_of kind numbers) (at numbers i / 256 ∷ words (drop (i + 1) numbers)) before (set now (1 + 2 * i) low) (2 + 2 * i)
+    behind low e = let z : 1 + 2 * i + 1 ≡ 2 + 2 * i = omega arith in let w = byte_stored here in rw (e, ← z) w
+
+    pub high_inside : (low : ℕ) → 2 + 2 * i < length (set now (1 + 2 * i) low)
+    high_inside low = rw (length-set now (1 + 2 * i) low) (omega (arith, here.next, here.size, here.room))
+
+    pub number_stored : {bytes : List ℕ} → at numbers i < 2 ^ 16 → bytes ≡ at numbers i % 256 ∷ at numbers i / 256 % 256 ∷ []
+        → NumbersLeft n kind numbers before (set (set now (1 + 2 * i) (at bytes 0)) (2 + 2 * i) (at bytes 1)) (i + 1)
+    number_stored f e =
+        let q : at numbers i / 256 % 256 ≡ at numbers i / 256 = omega (arith, f) in
+        let z : 2 + 2 * i + 1 ≡ 1 + 2 * (i + 1) = omega arith in
+        rw (e, q) (record { all = l.all; left = let w = byte_stored (behind _ refl) in rw (← z) w })

@@ -1,10 +1,10 @@
 pub mod Going
 pub mod ReadThrough
+pub mod Cutting
 pub mod Planning
 pub mod BatchByBatch
 pub mod Measuring
 pub mod Filling
-pub mod Recording
 pub mod Accepting
 pub mod Staying
 pub mod WholeFile

@@ -4,3 +4,4 @@ pub mod Said
 pub mod Statements
 pub mod Worked
 pub mod Filling
+pub mod Lent

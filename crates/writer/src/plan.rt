@@ -1,68 +1,100 @@
-// The parts of a plan: lengths that go with the reports and add up to the numbers lent, and batches none of which is refused.
-ghost use Rattle.std.specs.Prelude.{◌≡◌, List, ℕ, length, eqb};
+// What is lent of a plan, and its batches: cut off the front one by one.
+ghost use Rattle.std.specs.Prelude.{◌≡◌, ℕ, length, eqb};
 ghost use Rattle.plain.specs.Table.{total};
-ghost use Rattle.writer.specs.Plan.{plan_of};
-ghost use Rattle.writer.specs.Written.{parts_verdict, batches_verdict, plan_verdict};
 
-use tables::{Fault, Verdict};
+use tables::Verdict;
 
 // Whether the lengths add up to so many numbers: each is taken off what is left, so that no sum wraps.
 fn add_up(lengths: &[u16], numbers: usize) -> bool
     ensures { result ≡ eqb (total lengths.now) numbers }
 {
     let mut left = numbers;
-    let mut b = 0;
-    while b < lengths.len() {
-        let k = checks::at(lengths, b);
+    for &k in lengths {
+        let k = k as usize;
         if left < k {
             return false;
         }
         left -= k;
-        b += 1;
     }
     left == 0
 }
 
-// 27: as many reports as lengths, and lengths that add up to the numbers lent.
-fn parts(numbers: usize, lengths: &[u16], reports: usize) -> Verdict
-    ensures { result ≡ parts_verdict numbers lengths.now reports }
-{
-    let count = lengths.len();
-    if reports != count {
-        return Verdict::Refused(Fault::Parts, count);
-    }
-    if !add_up(lengths, numbers) {
-        return Verdict::Refused(Fault::Parts, count);
-    }
-    Verdict::Sound
+// A batch, and whether a report is asked after it, which the byte says where it is not 0.
+#[derive(Clone, Copy)]
+pub struct Part<'a> {
+    pub batch: &'a [u16],
+    pub report: bool,
 }
 
-// 7 to 9 of the first bad batch.
-fn batches(n: usize, links: &[u16], lengths: &[u16]) -> Verdict
-    requires { total lengths.now ≡ length links.now }
-    ensures { (reports : List ℕ) → result ≡ batches_verdict n (plan_of links.now lengths.now reports) }
-{
-    let mut from = 0;
-    let mut b = 0;
-    while b < lengths.len() {
-        let end = from + checks::at(lengths, b);
-        let good = checks::batch(n, &links[from..end]);
-        let Verdict::Sound = good else {
-            return good;
+// The slices that are lent: a report byte for each length, and lengths that add up to the numbers.
+// Kept: lengths and reports stay two slices with one index, as document 02 lends them.
+#[derive(Clone, Copy)]
+pub struct Plan<'a> {
+    links: &'a [u16],
+    lengths: &'a [u16],
+    reports: &'a [u8],
+    ghost bytes: { length reports.now ≡ length lengths.now },
+    ghost sum: { total lengths.now ≡ length links.now },
+}
+
+impl<'a> Plan<'a> {
+    ghost use Rattle.writer.specs.Written.{batches_verdict};
+    ghost use Rattle.writer.specs.Lent.{parts, Planned};
+
+    // A plan of these slices; None, to be answered by 27, where they don't go together.
+    pub fn new(links: &'a [u16], lengths: &'a [u16], reports: &'a [u8]) -> Option<Plan<'a>>
+        ensures { Planned links.now lengths.now reports.now result }
+    {
+        if reports.len() != lengths.len() {
+            return None;
+        }
+        if !add_up(lengths, links.len()) {
+            return None;
+        }
+        Some(Plan {
+            links,
+            lengths,
+            reports,
+        })
+    }
+
+    // Refuses the first bad batch, with 7 to 9.
+    pub fn check(self, n: usize) -> Verdict
+        ensures { result ≡ batches_verdict n (parts self.entry) }
+    {
+        for part in self {
+            let good = checks::batch(n, part.batch);
+            let Verdict::Sound = good else {
+                return good;
+            };
+        }
+        Verdict::Sound
+    }
+}
+
+// The batches that are left, from the first on.
+impl<'a> Iterator for Plan<'a> {
+    ghost use Rattle.std.specs.Iterator.{YieldsFirstBy, item_count};
+    ghost use Rattle.writer.specs.Lent.{parts, part_of};
+
+    type Item = Part<'a>;
+
+    ghost next_gives = { YieldsFirstBy part_of parts };
+
+    ghost remaining = { item_count parts };
+
+    fn next(&mut self) -> Option<Part<'a>> {
+        let (k, lengths) = self.lengths.split_first()?;
+        let (report, reports) = self.reports.split_first()?;
+        let (batch, links) = self.links.split_at(*k as usize);
+        *self = Plan {
+            links,
+            lengths,
+            reports,
         };
-        from = end;
-        b += 1;
+        Some(Part {
+            batch,
+            report: *report != 0,
+        })
     }
-    Verdict::Sound
-}
-
-// 27, then 7 to 9.
-pub fn check(n: usize, links: &[u16], lengths: &[u16], reports: &[u8]) -> Verdict
-    ensures { result ≡ plan_verdict n links.now lengths.now reports.now }
-{
-    let whole = parts(links.len(), lengths, reports.len());
-    let Verdict::Sound = whole else {
-        return whole;
-    };
-    batches(n, links, lengths)
 }

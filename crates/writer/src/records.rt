@@ -1,57 +1,28 @@
 // The records of the file. Each goes into the part of the buffer that is still free: it is lent on to a function that fills its front and leaves the
 // rest. Every function answers how many bytes it wrote.
-ghost use Rattle.std.specs.Prelude.{◌≡◌, not, [], ◌∷◌, ◌%◌, ◌/◌, ◌<◌, ◌≤◌, length, eqb};
+// Kept: a buffer and a count beside it, since document 01 lends `&mut out[at..]` on, and there is no heap. The kind is the byte that is written, as `record_of` takes it.
+ghost use Rattle.std.specs.Prelude.{◌≡◌, [], ◌∷◌, ◌≤◌, length};
 ghost use Rattle.tables.specs.Tree.{most_machines};
 ghost use Rattle.tables.specs.Batch.{pairs};
 ghost use Rattle.sitefile.specs.Record.{record_of};
-ghost use Rattle.writer.specs.Plan.{uplink_records, tree_records, link_records, close_records, batch_records, plan_of, plan_records, file_of};
-ghost use Rattle.writer.specs.Filling.{Fills, PlanFits, FileFits};
+ghost use Rattle.writer.specs.Lent.{parts};
+ghost use Rattle.writer.specs.Plan.{uplink_records, tree_records, link_records, close_records, batch_records, plan_records, file_of};
+ghost use Rattle.writer.specs.Filling.{Fills};
 
-// The low byte of a number.
-fn low(n: u16) -> u8
-    ensures { result ≡ n % 256 }
-{
-    (n % 256) as u8
-}
+use crate::plan::{Part, Plan};
 
-// Its high byte.
-fn high(n: u16) -> u8
-    ensures { result ≡ n / 256 }
-{
-    (n / 256) as u8
-}
-
-// A record without a body.
-fn bare(free: &mut [u8], kind: u8) -> usize
-    requires { 1 ≤ length free.old }
-    ensures { Fills (record_of kind []) free.old free.new result }
+// A record: its kind, then its numbers, of each the low byte first.
+fn record<const N: usize>(free: &mut [u8], kind: u8, numbers: [u16; N]) -> usize
+    requires { length (record_of kind numbers) ≤ length free.old }
+    ensures { Fills (record_of kind numbers.entry) free.old free.new result }
 {
     free[0] = kind;
-    1
-}
-
-// A record of one number, the low byte first.
-fn one(free: &mut [u8], kind: u8, n: u16) -> usize
-    requires { 3 ≤ length free.old }
-    ensures { Fills (record_of kind (n ∷ [])) free.old free.new result }
-{
-    free[0] = kind;
-    free[1] = low(n);
-    free[2] = high(n);
-    3
-}
-
-// A record of two.
-fn two(free: &mut [u8], kind: u8, a: u16, b: u16) -> usize
-    requires { 5 ≤ length free.old }
-    ensures { Fills (record_of kind (a ∷ b ∷ [])) free.old free.new result }
-{
-    free[0] = kind;
-    free[1] = low(a);
-    free[2] = high(a);
-    free[3] = low(b);
-    free[4] = high(b);
-    5
+    for i in 0..N {
+        let [low, high] = numbers[i].to_le_bytes();
+        free[1 + 2 * i] = low;
+        free[2 + 2 * i] = high;
+    }
+    1 + 2 * N
 }
 
 // Kind 2 for each machine.
@@ -60,11 +31,8 @@ fn uplinks(out: &mut [u8], up: &[u16]) -> usize
     ensures { Fills (uplink_records up.now) out.old out.new result }
 {
     let mut at = 0;
-    let mut v = 0;
-    while v < up.len() {
-        let k = one(&mut out[at..], 2, up[v]);
-        at += k;
-        v += 1;
+    for v in 0..up.len() {
+        at += record(&mut out[at..], 2, [up[v]]);
     }
     at
 }
@@ -74,7 +42,7 @@ fn tree(out: &mut [u8], up: &[u16]) -> usize
     requires { (length up.now ≤ most_machines) × (length (tree_records up.now) ≤ length out.old) }
     ensures { Fills (tree_records up.now) out.old out.new result }
 {
-    let k = one(out, 1, up.len() as u16);
+    let k = record(out, 1, [up.len() as u16]);
     k + uplinks(&mut out[k..], up)
 }
 
@@ -84,59 +52,54 @@ fn links(out: &mut [u8], batch: &[u16]) -> usize
     ensures { Fills (link_records (pairs batch.now)) out.old out.new result }
 {
     let mut at = 0;
-    let mut i = 0;
-    while i + 1 < batch.len() {
-        let k = two(&mut out[at..], 3, batch[i], batch[i + 1]);
-        at += k;
-        i += 2;
+    for i in 0..batch.len() / 2 {
+        at += record(&mut out[at..], 3, [batch[2 * i], batch[2 * i + 1]]);
     }
     at
 }
 
 // Kind 4, and kind 5 where a report is asked.
-fn close(out: &mut [u8], report: u8) -> usize
-    requires { length (close_records (not (eqb report 0))) ≤ length out.old }
-    ensures { Fills (close_records (not (eqb report 0))) out.old out.new result }
+fn close(out: &mut [u8], report: bool) -> usize
+    requires { length (close_records report) ≤ length out.old }
+    ensures { Fills (close_records report) out.old out.new result }
 {
-    let k = bare(out, 4);
-    if report == 0 {
+    let k = record(out, 4, []);
+    if !report {
         return k;
     }
-    k + bare(&mut out[k..], 5)
+    k + record(&mut out[k..], 5, [])
 }
 
-// A batch: its links, then its close.
-fn batch(out: &mut [u8], batch: &[u16], report: u8) -> usize
-    requires { length (batch_records batch.now (not (eqb report 0))) ≤ length out.old }
-    ensures { Fills (batch_records batch.now (not (eqb report 0))) out.old out.new result }
-{
-    let k = links(out, batch);
-    k + close(&mut out[k..], report)
-}
-
-// Batch after batch.
-fn batches(out: &mut [u8], links: &[u16], lengths: &[u16], reports: &[u8]) -> usize
-    requires { PlanFits links.now lengths.now reports.now out.old }
-    ensures { Fills (plan_records (plan_of links.now lengths.now reports.now)) out.old out.new result }
-{
-    let mut at = 0;
-    let mut from = 0;
-    let mut b = 0;
-    while b < lengths.len() {
-        let end = from + checks::at(lengths, b);
-        let k = batch(&mut out[at..], &links[from..end], reports[b]);
-        at += k;
-        from = end;
-        b += 1;
+impl Part<'_> {
+    // A batch: its links, then its close.
+    fn write(self, out: &mut [u8]) -> usize
+        requires { length (batch_records self.batch.now self.report) ≤ length out.old }
+        ensures { Fills (batch_records self.entry.batch.now self.entry.report) out.old out.new result }
+    {
+        let k = links(out, self.batch);
+        k + close(&mut out[k..], self.report)
     }
-    at
 }
 
-// The tree, then the batches.
-pub fn file(out: &mut [u8], up: &[u16], links: &[u16], lengths: &[u16], reports: &[u8]) -> usize
-    requires { FileFits up.now links.now lengths.now reports.now out.old }
-    ensures { Fills (file_of up.now (plan_of links.now lengths.now reports.now)) out.old out.new result }
-{
-    let k = tree(out, up);
-    k + batches(&mut out[k..], links, lengths, reports)
+impl Plan<'_> {
+    // Batch after batch.
+    fn batches(self, out: &mut [u8]) -> usize
+        requires { length (plan_records (parts self)) ≤ length out.old }
+        ensures { Fills (plan_records (parts self.entry)) out.old out.new result }
+    {
+        let mut at = 0;
+        for part in self {
+            at += part.write(&mut out[at..]);
+        }
+        at
+    }
+
+    // The tree, then the batches.
+    pub fn write(self, up: &[u16], out: &mut [u8]) -> usize
+        requires { (length up.now ≤ most_machines) × (length (file_of up.now (parts self)) ≤ length out.old) }
+        ensures { Fills (file_of up.now (parts self.entry)) out.old out.new result }
+    {
+        let k = tree(out, up);
+        k + self.batches(&mut out[k..])
+    }
 }

@@ -5,8 +5,8 @@ use Rattle.checks.proofs.tables.Goals as goal
 pub returns-in_default : goal.returns-in_default
 returns-in_default c = search ups_refused
 
-pub check-kept-requires : goal.check-kept-requires
-check-kept-requires c = search rules_ready
+pub invariant_of-site : goal.invariant_of-site
+invariant_of-site c = record { sized = search rules_ready }
 
 pub returns-in_default-kept : goal.returns-in_default-kept
 returns-in_default-kept c = search rules_refused

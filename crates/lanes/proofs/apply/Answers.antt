@@ -1,22 +1,19 @@
--- `apply` meets its contract: the local tables are blank at first.
-use lib.Seq.{length-take-le}
-use Rattle.lanes.proofs.Preparing.{prepared}
+-- Blank tables are looked over, and groups that are joined and marks that are swept are the tables after the batch.
+use Rattle.lanes.proofs.Preparing.{tree_accepted, bare, join_ready, sweep_ready}
+use Rattle.lanes.proofs.Wholes.{applied}
 use Rattle.lanes.proofs.apply.Goals as goal
 
-pub slice_bounds-work-end : goal.slice_bounds-work-end
-slice_bounds-work-end c = search length-take-le
+pub invariant_of-tree-clause-sound : goal.invariant_of-tree-clause-sound
+invariant_of-tree-clause-sound c = search tree_accepted
 
-pub slice_bounds-work-end-2 : goal.slice_bounds-work-end-2
-slice_bounds-work-end-2 c = search length-take-le
+pub look-levels-requires : goal.look-levels-requires
+look-levels-requires c = search bare
 
-pub slice_bounds-work-end-3 : goal.slice_bounds-work-end-3
-slice_bounds-work-end-3 c = search length-take-le
+pub join-requires : goal.join-requires
+join-requires c = search join_ready
 
-pub slice_bounds-work-end-4 : goal.slice_bounds-work-end-4
-slice_bounds-work-end-4 c = search length-take-le
+pub settle-requires : goal.settle-requires
+settle-requires c = search sweep_ready
 
-pub slice_bounds-work-end-5 : goal.slice_bounds-work-end-5
-slice_bounds-work-end-5 c = search length-take-le
-
-pub work-requires : goal.work-requires
-work-requires c = search prepared
+pub returns : goal.returns
+returns c = search applied

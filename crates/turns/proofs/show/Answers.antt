@@ -1,16 +1,9 @@
--- `show`: the front parts are no longer than their slices, and there is room for the text.
-use lib.Seq.{length-take-le}
-use Rattle.turns.proofs.Turning.{shows}
+-- `show`: the desk's text has room for a report on as many machines as a room has.
+use Rattle.turns.proofs.Turning.{report_fits, report_told}
 use Rattle.turns.proofs.show.Goals as goal
 
-pub slice_bounds-report-end : goal.slice_bounds-report-end
-slice_bounds-report-end c = search length-take-le
-
-pub slice_bounds-report-end-2 : goal.slice_bounds-report-end-2
-slice_bounds-report-end-2 c = search length-take-le
-
-pub slice_bounds-report-end-3 : goal.slice_bounds-report-end-3
-slice_bounds-report-end-3 c = search length-take-le
+pub unwrap-k-requires : goal.unwrap-k-requires
+unwrap-k-requires c = search report_fits
 
 pub returns : goal.returns
-returns c = search shows
+returns c = search report_told

@@ -1,5 +1,4 @@
 -- `take`: 13 first, then the next record with its text.
-use native.Mathlib.Omega.{arith}
 use Rattle.turns.proofs.Turning.{turn_long, turn_taken}
 use Rattle.turns.proofs.Telling.{tell_due}
 use Rattle.turns.proofs.take.Goals as goal
@@ -11,4 +10,4 @@ pub tell-requires : goal.tell-requires
 tell-requires c = search tell_due
 
 pub returns : goal.returns
-returns c = turn_taken _ _ _ _ (omega (arith, c.if-file-gt-MOST_BYTES.false)) c.next-step.ensures (c.tell.ensures _ _ _ _)
+returns c = search turn_taken

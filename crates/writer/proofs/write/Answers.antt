@@ -1,17 +1,21 @@
 -- `writer::write` meets its contract: a check that refuses is the answer, and else the file is written.
-use Rattle.site.proofs.Answers.{refused}
-use Rattle.writer.specs.Written.{write_of}
-use Rattle.writer.proofs.WholeFile.{writable, written}
+use Rattle.writer.proofs.WholeFile.{bad_tree, bad_parts, few, bad_batch, room, written}
 use Rattle.writer.proofs.write.Goals as goal
 
 pub returns-in_default : goal.returns-in_default
-unfolding write_of
-returns-in_default c = search refused
+returns-in_default c = search bad_tree
 
-pub file-len-requires : goal.file-len-requires
-unfolding write_of
-file-len-requires c = search writable
+pub returns-in_default-new : goal.returns-in_default-new
+returns-in_default-new c = search (bad_parts, c.in_default-new.ensures)
+
+pub check-fine-requires : goal.check-fine-requires
+check-fine-requires c = search few
+
+pub returns-in_default-fine : goal.returns-in_default-fine
+returns-in_default-fine c = search (bad_batch, c.in-Some.ensures)
+
+pub write-len-requires : goal.write-len-requires
+write-len-requires c = search (few, room, c.in-Some.ensures)
 
 pub returns : goal.returns
-unfolding write_of
-returns c = search written
+returns c = search (written, c.in-Some.ensures)

@@ -1,9 +1,6 @@
--- The goals that are left, each by its law.
-use Rattle.checks.proofs.LinkByLink.{passed_none, passed_more, passed_all, refused}
+-- `batches::ends`: a link that is refused is the answer, one that passes leaves it to the links behind it.
+use Rattle.checks.proofs.LinkByLink.{passed_more, passed_all, refused}
 use Rattle.checks.proofs.batches.ends.Goals as goal
-
-pub loop-i-init : goal.loop-i-init
-loop-i-init c = passed_none _ _
 
 pub returns-in_default : goal.returns-in_default
 returns-in_default c = search refused

@@ -1,16 +1,10 @@
--- `lengths::outputs`: each test decides one of the checks.
+-- `lengths::outputs`: the two slices in their order.
+use native.Mathlib.Omega.{arith}
+use Rattle.std.proofs.lemmas.Bool.Decides.{nat_tests}
+use Rattle.tables.specs.Verdict.{checks}
 use Rattle.tables.specs.Outcome.{outputs_verdict}
-use Rattle.checks.proofs.Checking.{slice_off, slice_fits, no_more}
 use Rattle.checks.proofs.lengths.outputs.Goals as goal
 
-pub returns-then-machines-n : goal.returns-then-machines-n
-unfolding outputs_verdict
-returns-then-machines-n c = search slice_off
-
-pub returns-then-links-n : goal.returns-then-links-n
-unfolding outputs_verdict
-returns-then-links-n c = search (slice_fits, slice_off)
-
 pub returns : goal.returns
-unfolding outputs_verdict
-returns c = search (slice_fits, no_more)
+unfolding outputs_verdict checks
+returns c = grind (arith, nat_tests)

@@ -1,5 +1,4 @@
 -- `trees::entries` meets its contract. The loop's invariant: the entries below `v` are machines.
-use Prim.Native.Nat.{◌-◌}
 use lib.ListN.{length}
 use lib.Dec.{leb}
 use Rattle.plain.specs.Table.{at}
@@ -8,6 +7,3 @@ use Rattle.checks.proofs.trees.entries.Given as goal
 
 abbrev pub invariant-loop-v : goal.invariant-loop-v
 invariant-loop-v l = Searched (length l.up) (λ k. leb (length l.up) (at l.up k)) l.v
-
-abbrev pub decreases-loop-v : goal.decreases-loop-v
-decreases-loop-v l = length l.up - l.v

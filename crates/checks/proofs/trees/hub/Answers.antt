@@ -1,6 +1,6 @@
--- `trees::hub` meets its contract. What the search from 0 finds is the hub.
-use Rattle.checks.proofs.TreeVerdicts.{first-hub}
+-- `trees::hub`: what the search from 0 finds is the hub.
+use Rattle.checks.proofs.TreeVerdicts.{hub_or}
 use Rattle.checks.proofs.trees.hub.Goals as goal
 
 pub returns : goal.returns
-returns c = search first-hub
+returns c = search hub_or

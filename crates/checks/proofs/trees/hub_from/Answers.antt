@@ -1,21 +1,17 @@
--- The goals that are left, each by its law.
+-- `trees::hub_from`. Nothing between `from` and the machine that is found names itself, nor anything at all where none is.
+use mathlib.Core.Path.{◌≡◌}
 use native.Mathlib.Omega.{arith}
 use borrow.Author.Rules.{rules}
-use Rattle.checks.proofs.Searching.{next, least_here, least_none}
-use Rattle.checks.proofs.TreeVerdicts.{seek_start, seek_hub, seek_other}
+use borrow.Author.Tests.{tests}
+use Rattle.std.proofs.lemmas.Iterator.{first_from_Range}
+use Rattle.std.proofs.lemmas.List.{get_or_read}
+use Rattle.plain.specs.Table.{at}
+use Rattle.checks.proofs.TreeVerdicts.{found_hub}
 use Rattle.checks.proofs.trees.hub_from.Goals as goal
 
-pub loop-v-init : goal.loop-v-init
-loop-v-init c = search (seek_start, rules)
-
-pub overflow_cast-up : goal.overflow_cast-up
-overflow_cast-up c = omega (arith, c.type_inv.up c.loop-v.v)
-
-pub returns-then-up-v : goal.returns-then-up-v
-returns-then-up-v c = search (least_here, seek_hub)
-
-pub loop-v-preserved : goal.loop-v-preserved
-loop-v-preserved c = search (next, seek_other, rules)
-
 pub returns : goal.returns
-returns c = search least_none
+returns c =
+    let up = c.args.up.now in
+    found_hub up c.args.from _ (first_from_Range _ _ _ _ (λ v. at up v ≡ v) (λ v. at up v ≡ v → ⊥) c.find.ensures.ran
+    (λ v q k. grind (arith, tests, get_or_read))
+    (λ v q k. (search rules, grind (arith, tests, get_or_read))))

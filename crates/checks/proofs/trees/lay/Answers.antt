@@ -1,13 +1,7 @@
--- The goals that are left, each by its law.
+-- `trees::lay`: a machine that is not known is not the hub, so its depth is at least 1, and the next one's is one less.
 use native.Mathlib.Omega.{arith}
-use Rattle.checks.proofs.DepthTable.{lay_start, lay_deep, lay_next, lay_end}
+use Rattle.checks.proofs.DepthTable.{lay_deep, lay_next}
 use Rattle.checks.proofs.trees.lay.Goals as goal
-
-pub loop-known-init : goal.loop-known-init
-loop-known-init c = search lay_start
-
-pub overflow_cast-p : goal.overflow_cast-p
-overflow_cast-p c = omega (arith, c.type_inv.up c.loop-known.x)
 
 pub overflow_sub-d : goal.overflow_sub-d
 overflow_sub-d c = search lay_deep
@@ -17,6 +11,3 @@ loop-known-smaller c = omega (arith, lay_deep c.loop-known-test.true c.loop-know
 
 pub loop-known-preserved : goal.loop-known-preserved
 loop-known-preserved c = search lay_next
-
-pub returns : goal.returns
-returns c = search lay_end

@@ -1,11 +1,6 @@
 -- `groups::flatten` meets its contract: the entries before `i` are names, and the others are as they were.
-use Prim.Native.Nat.{◌-◌}
-use lib.ListN.{length}
 use Rattle.lanes.proofs.Uniting.{Flattening}
 use Rattle.lanes.proofs.groups.flatten.Given as goal
 
 abbrev pub invariant-loop-i : goal.invariant-loop-i
 invariant-loop-i l = Flattening l.initial.group l.group l.i
-
-abbrev pub decreases-loop-i : goal.decreases-loop-i
-decreases-loop-i l = length l.initial.group - l.i

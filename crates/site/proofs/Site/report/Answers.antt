@@ -1,15 +1,17 @@
 -- `Site::report`: a check that refuses is the answer; else the outputs are filled.
 use Rattle.tables.specs.Outcome.{report_of}
-use Rattle.site.proofs.Answers.{refused, report_ready, report_left}
+use Rattle.site.proofs.Answers.{refused, report_sizes, report_left}
 use Rattle.site.proofs.Site.report.Goals as goal
 
 pub returns-in_default : goal.returns-in_default
 unfolding report_of
 returns-in_default c = search refused
 
+pub invariant_of-view : goal.invariant_of-view
+invariant_of-view c = search (report_sizes _ _ _ _ c.in-Sound.is _ _ c.report-check.ensures)
+
 pub fill-chokes-requires : goal.fill-chokes-requires
-unfolding report_of
-fill-chokes-requires c = search report_ready
+fill-chokes-requires c = search (report_sizes _ _ _ _ c.in-Sound.is _ _ c.report-check.ensures)
 
 pub returns : goal.returns
 unfolding report_of

@@ -3,7 +3,7 @@ use Rattle.sitefile.proofs.ReadKinds.{number_in, size_refused, size_read}
 use Rattle.sitefile.proofs.kinds.size.Goals as goal
 
 pub returns-in_default : goal.returns-in_default
-returns-in_default c = search (size_refused, number_in)
+returns-in_default c room = search (size_refused, number_in)
 
 pub returns : goal.returns
-returns c = search (size_read, number_in)
+returns c room = search (size_read, number_in)

@@ -1,0 +1,9 @@
+-- `View::stuck`: a search, by what each call of its test answers.
+use Rattle.std.proofs.Common.{rules, tests}
+use Rattle.tables.specs.Report.{stuck}
+use Rattle.plain.proofs.Ranges.{any_some}
+use Rattle.site.proofs.report.View.stuck.Goals as goal
+
+pub returns : goal.returns
+unfolding stuck
+returns c = any_some c.any.ensures.ran (λ x b q k. search (rules, tests))

@@ -1,0 +1,7 @@
+-- `Plan::check` meets its contract. The loop's invariant: every batch so far passed, so the verdict is that of the batches that are left.
+use Rattle.writer.specs.Lent.{parts}
+use Rattle.writer.proofs.BatchByBatch.{Passed}
+use Rattle.writer.proofs.plan.Plan.check.Given as goal
+
+abbrev pub invariant-loop-part : goal.invariant-loop-part
+invariant-loop-part l = Passed l.n (parts l.fn.self) (parts l.part-iterator)
