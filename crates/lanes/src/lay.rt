@@ -40,6 +40,7 @@ fn top_for(up: &[u16], kid: &[u16], top: &[u16], v: usize) -> u16
 // So many links are climbed one by one sooner than lanes are laid.
 const FEW_LINKS: usize = 2;
 
+// Kept: `Walkable`, and `Noted` above, speak of tables that are about to be written, so they stand in the contracts and are no part of `Lists`.
 impl Lists<'_> {
     // Offers the machines of depth k.
     fn offers(&self, rank: &mut [u16], kid: &mut [u16], k: usize)

@@ -13,6 +13,7 @@ use tables::Answer;
 pub const MOST_TEXT: usize = 24 * checks::MACHINES + 64;
 
 // How many bytes are not 0.
+// Kept: `site` counts its machines by a line of the same form; it has three public calls and no more (docs/DECISIONS.md).
 fn named(bytes: &[u8]) -> usize
     ensures { result ≡ named bytes.now }
 {
@@ -27,6 +28,7 @@ fn fits(n: usize, machines: usize, links: usize, room: usize) -> bool
 }
 
 // A lent buffer, and the place up to which it is written.
+// Kept: a buffer and a place in it: no heap. `HasRoom` stands in the contract of each method, for it speaks of what is about to be written.
 #[derive(Drop)]
 struct Page<'a> {
     out: &'a mut [u8],

@@ -70,7 +70,8 @@ fn next(from: &mut impl Read, last: Entry) -> io::Result<Entry> {
     }
 }
 
-// The length of a list. One with no room is empty: its length is 0.
+// The length of a list.
+// Kept: 0 is neither for None nor a lesser number: a list with no room is empty.
 fn length(from: &mut impl Read, room: usize) -> io::Result<usize>
     ensures { IfOk result (λ n. n ≤ room) }
 {
