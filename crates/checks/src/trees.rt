@@ -1,5 +1,5 @@
 // The tree check: every entry a machine, one hub, and every machine reaches it. It leaves the depths behind.
-// Kept: `up` and `known` side by side; of the functions that have both two write `known` and one reads it, so a struct would be made for each.
+// Kept: `up` and `known` side by side; of the four functions that have both three write `known` and one reads it, so a struct of them would be taken apart at once.
 ghost use Rattle.std.specs.Prelude.{◌≡◌, ◌<◌, length};
 ghost use Rattle.tables.specs.Tree.{hub, depth_of, entries_verdict, hubs_verdict, reach_verdict, tree_verdict};
 ghost use Rattle.checks.specs.TreeCheck.{below, hub_from, ups_verdict, Climbing, Laying, Laid, DepthRoom, Climbable, Reached};

@@ -17,6 +17,7 @@ const MOST_LENGTH: usize = 65535;
 fn read_next<'a>(from: &mut impl Read, file: &'a mut [u8]) -> io::Result<Option<&'a [u8]>>
     requires { length file.old ≡ MOST_LENGTH }
 {
+    // Kept: a stream is read into a buffer: no heap.
     let mut head = [0u8; 2];
     if intake::read_full(from, &mut head)? < 2 {
         return Ok(None);

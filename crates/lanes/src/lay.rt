@@ -9,7 +9,8 @@ use crate::table::{alone, at};
 
 // Offers v to its up as its kid. The rank of a machine with no kid is noted as 0, and is 1. No rank passes 13: 4,096 machines are too few, so the
 // addition never saturates.
-// Kept: 0 for no rank yet is less than every rank, so `max(1)` is its only case; with an Option each comparison would have one.
+// Kept: 0 for no rank yet is less than every rank, so `max(1)` is its only case; ranks stand in the place of the tops, a 16-bit table, so
+// Options would need a table more (a rule: fixed memory).
 fn offer(up: &[u16], rank: &mut [u16], kid: &mut [u16], v: usize)
     requires { Noted up.now rank.old kid.old v }
 {

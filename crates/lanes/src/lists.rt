@@ -35,6 +35,7 @@ impl<'a> Lists<'a> {
 }
 
 // A walk down one list, which goes down in number: x is one more than the machine that comes next, or 0.
+// Kept: x is an entry of `head` or `next` as it was read; `next` makes the Option of it.
 #[derive(Drop)]
 pub struct Walk<'a> {
     pub next: &'a [u16],

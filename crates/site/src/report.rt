@@ -1,5 +1,5 @@
 // The report of a site: a byte for each machine, and one for each uplink.
-// Kept: marks are matched by their ranges, and the outputs are written by index (document 01).
+// Kept: a machine's byte is 0 to 3 and an uplink's 0 or 1, as document 01's tables have them; marks are matched by their ranges, and the outputs are written by index (document 01).
 ghost use Rattle.std.specs.Prelude.{◌≡◌, ◌<◌, length};
 ghost use Rattle.plain.specs.Search.{some, count};
 ghost use Rattle.plain.specs.Table.{tabulate};

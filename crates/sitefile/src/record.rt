@@ -34,7 +34,7 @@ pub fn body(file: &[u8], place: usize) -> &[u8]
 }
 
 // A byte of a body, 0 past its end.
-// Kept: 0 in place of None is what the definition `word` says.
+// Kept: 0 in place of None is what the definition `word` says. `checks::at` is this over 16-bit numbers, one line of the library's: a generic one would be no shorter than its calls.
 fn byte(body: &[u8], i: usize) -> u8
     ensures { result ≡ at body.now i }
 {

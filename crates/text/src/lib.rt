@@ -28,7 +28,7 @@ fn fits(n: usize, machines: usize, links: usize, room: usize) -> bool
 }
 
 // A lent buffer, and the place up to which it is written.
-// Kept: a buffer and a place in it: no heap. `HasRoom` stands in the contract of each method, for it speaks of what is about to be written.
+// Kept: a buffer and a place in it: no heap. `HasRoom` stands in the contracts of six of the eight methods, for it speaks of what is about to be written.
 #[derive(Drop)]
 struct Page<'a> {
     out: &'a mut [u8],

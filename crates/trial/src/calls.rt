@@ -55,7 +55,7 @@ impl Slices<'_> {
         print::table(out, "; links", self.links)
     }
 
-    // Kept: arrays as long as a list can be, here and in `add`, side by side, for `writer::write` is lent a slice each (document 02): fixed memory, no heap.
+    // Kept: arrays as long as their lists may be, here and in `add`; here side by side, for `writer::write` is lent a slice each (document 02): fixed memory, no heap.
     fn write(&self, out: &impl Print, from: &mut impl Read) -> io::Result<()> {
         let mut links = [0u16; MOST_LIST];
         let mut lengths = [0u16; MOST_LIST];

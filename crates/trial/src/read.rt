@@ -35,6 +35,7 @@ struct Entry {
 // The next byte; 0 where the input has ended.
 // Kept: an Option is no plainer, for a zero byte ends a text too: main would have to name both, and the letters of a site would pass over both.
 pub fn byte(from: &mut impl Read) -> io::Result<u8> {
+    // Kept: a stream is read into a buffer: no heap.
     let mut one = [0u8; 1];
     from.read(&mut one)?;
     Ok(one[0])

@@ -17,6 +17,7 @@ use plan::Plan;
 use tables::{Answer, Fault, Verdict};
 
 // The batches, then the length of the file of n machines.
+// Kept: that there are no more machines than a site has speaks of `up`, which is lent alone, here and in `Plan::length`, `tree` and `Plan::write`; a struct of one slice is no plainer.
 fn check(n: usize, plan: Plan<'_>, room: usize) -> Verdict
     requires { n ≤ most_machines }
     ensures { result ≡ checks (batches_verdict n (parts plan.entry) ∷ room_verdict (3 + 3 * n + length (plan_records (parts plan.entry))) room ∷ []) }
