@@ -1,6 +1,5 @@
 // What a call answers to the verdict of its checks.
 ghost use Rattle.std.specs.Prelude.{◌≡◌};
-ghost use Rattle.tables.specs.Verdict.{number_of};
 ghost use Rattle.tables.specs.Answer.{refusal, answer_to};
 
 use tables::{Answer, Fault, Verdict};

@@ -8,12 +8,12 @@ use native.Mathlib.Omega.{arith}
 use lib.ListN.{length}
 use Rattle.plain.specs.Table.{at}
 use Rattle.tables.specs.Tree.{depth_of}
-use Rattle.lanes.specs.Depths.{Listed, Lists, OnList, Past, Headed}
+use Rattle.lanes.specs.Depths.{Listed, Lists, OnList, Past, Begins, Falls}
 use Rattle.lanes.specs.Laying.{Noted}
 use Rattle.lanes.proofs.Grown.{Grounded}
 
 module _ {n : ℕ} {d : ℕ → ℕ} {head next : List ℕ} (l : Lists n d n head next) where
-  pub on_head : (k : ℕ) → OnList n d next k (at head k)
+  on_head : (k : ℕ) → OnList n d next k (at head k)
   on_head k v e = l.head_on k v e
 
   pub head_few : (k : ℕ) {x : ℕ} → x ≡ at head k → x ≤ n
@@ -39,7 +39,7 @@ module _ {n : ℕ} {d : ℕ → ℕ} {head next : List ℕ} (l : Lists n d n hea
     pub here_depth : d (x - 1) ≡ k
     here_depth = (here_on (x - 1) refl).2
 
-    pub on_next : OnList n d next k (at next (x - 1))
+    on_next : OnList n d next k (at next (x - 1))
     on_next u e = let (g, p, q) = l.next_on (x - 1) u here_in here_listed e in (omega (arith, here_in), p, q ∙ here_depth)
 
     next_less : {y : ℕ} → y ≡ at next (x - 1) → y < x
@@ -58,12 +58,15 @@ module _ {n : ℕ} {d : ℕ → ℕ} {head next : List ℕ} (l : Lists n d n hea
     past_still (e, f) = (e, omega (arith, next_less refl))
 
 -- a list that is walked from its head
-pub headed : {up head next : List ℕ} → Grounded up head next → (k : ℕ) → k < length up → Headed head next k
-headed {up} {head} {next} g k h = record {
-  here = rw g.lists.heads h;
-  begins = λ v e. let (i, p, q) = g.lists.head_on k v e in (rw g.lists.nexts i, p);
-  falls = λ u w i p e. let (l, q, d) = g.lists.next_on u w (rw g.lists.nexts at i) p e in (l, q);
-}
+module _ {up head next : List ℕ} (g : Grounded up head next) where
+  pub head_in : {k : ℕ} → k < length up → k < length head
+  head_in h = rw g.lists.heads h
+
+  pub begins : (k : ℕ) {x : ℕ} → x ≡ at head k → Begins next x
+  begins k q v e = let (i, p, d) = g.lists.head_on k v (sym q ∙ e) in (rw g.lists.nexts i, p)
+
+  pub falls : Falls next
+  falls u w i p e = let (l, q, d) = g.lists.next_on u w (rw g.lists.nexts at i) p e in (l, q)
 
 -- a walk stays inside its tables and goes down in number
 module _ {up head next : List ℕ} (g : Grounded up head next) {k : ℕ} where
@@ -71,7 +74,7 @@ module _ {up head next : List ℕ} (g : Grounded up head next) {k : ℕ} where
     pub less : {y : ℕ} → y ≡ at next (x - 1) → y < x
     less = next_less g.lists o some
 
-    pub noted : {one two : List ℕ} → length one ≡ length up → length two ≡ length up → Noted up one two (x - 1)
+    noted : {one two : List ℕ} → length one ≡ length up → length two ≡ length up → Noted up one two (x - 1)
     noted p q = let h = here_in g.lists o some in record { few = g.few; here = h; above = g.tree.inside (x - 1) h; ones = p; twos = q }
 
 -- a walk of the list of depth k that stands at x of its table

@@ -61,12 +61,6 @@ Begins next x = (v : ℕ) → x ≡ suc v → (v < length next) × Listed next v
 abbrev pub Falls : List ℕ → Type 0
 Falls next = (u w : ℕ) → u < length next → Listed next u → at next u ≡ suc w → (w < u) × Listed next w
 
--- the head of list k
-pub record Headed (head next : List ℕ) (k : ℕ) : Type 0 where
-  pub here : k < length head
-  pub begins : Begins next (at head k)
-  pub falls : Falls next
-
 -- one step of a walk from x gives the machine that x is one more than, and stands at y then; none where the list ends
 abbrev pub Stepped : List ℕ → ℕ → Option ℕ → List ℕ → ℕ → Type 0
 Stepped next x r next' y = (next' ≡ next) × MatchOption r (x ≡ 0) (λ v. (x ≡ suc v) × (y ≡ at next v))

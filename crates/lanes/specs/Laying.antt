@@ -26,13 +26,13 @@ pub record Noted (up one two : List ℕ) (v : ℕ) : Type 0 where
   pub ones : length one ≡ length up
   pub twos : length two ≡ length up
 
--- the list of depth k, with two tables of notes
+-- a depth k that a list may have, and two tables of notes
 pub record ListAt (up one two : List ℕ) (k : ℕ) : Type 0 where
   pub below : k < length up
   pub ones : length one ≡ length up
   pub twos : length two ≡ length up
 
--- lists to be walked, with two tables of notes
+-- two tables of notes, with an entry a machine
 pub record Walkable (up one two : List ℕ) : Type 0 where
   pub ones : length one ≡ length up
   pub twos : length two ≡ length up

@@ -5,7 +5,7 @@ ghost use Rattle.lanes.specs.Forest.{Down, Found, Unitable, United, Flattened};
 use crate::table::at;
 
 // The name of c's group. The entries on the way are moved nearer to it.
-// Kept: it goes on to the entry that names itself; there is no count. `Down` stands in its contract and in that of `flatten`; a struct of the lent table
+// Kept: it goes on to the entry that names itself; there is no count, so it is no plainer as a `for`. `Down` stands in its contract and in that of `flatten`; a struct of the lent table
 // would be taken apart at each call.
 fn root(group: &mut [u16], c: usize) -> usize
     requires { Down group.old × (c < length group.old) }

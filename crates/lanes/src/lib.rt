@@ -26,7 +26,7 @@ use checks::MACHINES;
 const BLANK: u16 = 65535;
 
 // Puts every machine that the batch can change on the list of its depth. Gives back how many lists there are.
-// Kept: three tables that are written; `Lists` has two of them once they are full, for reading.
+// Kept: a struct is no plainer: three tables that are written, of which `Lists` has two once they are full, for reading.
 fn look(tree: &Tree, batch: &[u16], low: &mut [u16], head: &mut [u16], next: &mut [u16]) -> usize
     requires { Bare tree.now.up.now batch.now low.old head.old next.old }
     ensures { Looked tree.now.up.now batch.now low.new head.new next.new result }

@@ -1,8 +1,8 @@
 // The machines seen, in lists by their depth.
-ghost use Rattle.std.specs.Prelude.{◌≡◌, ◌+◌, length};
+ghost use Rattle.std.specs.Prelude.{◌≡◌, ◌+◌, ◌<◌, length};
 ghost use Rattle.std.specs.Iterator.{at_most};
 ghost use Rattle.plain.specs.Table.{at as entry};
-ghost use Rattle.lanes.specs.Depths.{Listing, Listable, ListableAt, Begins, Falls, Headed, Stepped};
+ghost use Rattle.lanes.specs.Depths.{Listing, Listable, ListableAt, Begins, Falls, Stepped};
 ghost use Rattle.lanes.specs.Laying.{Ground, Levels};
 
 use crate::seen::NONE;
@@ -23,7 +23,7 @@ pub struct Lists<'a> {
 impl<'a> Lists<'a> {
     // The machines on the list of depth k.
     pub fn on(&self, k: usize) -> Walk<'a>
-        requires { Headed self.now.head.now self.now.next.now k }
+        requires { k < length self.now.tree.up.now }
         ensures table { result.next.now ≡ self.now.next.now }
         ensures start { result.x ≡ entry self.now.head.now k }
     {
@@ -35,7 +35,7 @@ impl<'a> Lists<'a> {
 }
 
 // A walk down one list, which goes down in number: x is one more than the machine that comes next, or 0.
-// Kept: x is an entry of `head` or `next` as it was read; `next` makes the Option of it.
+// Kept: an Option is no plainer: x is an entry of `head` or `next` as it was read, and `next` makes the Option of it.
 #[derive(Drop)]
 pub struct Walk<'a> {
     pub next: &'a [u16],
@@ -60,7 +60,7 @@ impl<'a> Iterator for Walk<'a> {
 
 // Puts v before the head of the list of its depth, if it is seen. An entry is one more than a machine.
 // Kept: an entry of `next` says on no list (65535), last (0) or followed by v (v + 1): an Option of an Option is no plainer.
-// Kept: tables one by one; `Lists` is of full tables, and these are being filled.
+// Kept: a struct is no plainer: `Lists` is of full tables, these are being filled, and one of these would be made for this call alone.
 fn list(depth: &[u16], low: &[u16], head: &mut [u16], next: &mut [u16], v: usize)
     requires { ListableAt depth.now low.now head.old next.old v }
     ensures { Listing depth.now low.now (v + 1) head.new next.new }

@@ -15,7 +15,7 @@ const MACHINES_AN_END: usize = 4;
 impl Tree<'_> {
     // From v up to the first machine that is seen. A machine that is seen has its depth as its entry. What is above is read before the entry is written,
     // for the tables lie a multiple of 4 KiB apart, and a processor makes such a read wait for the write (docs/DECISIONS.md).
-    // Kept: it goes on to a machine that is seen; there is no count.
+    // Kept: it goes on to a machine that is seen; there is no count, so it is no plainer as a `for`.
     fn see(&self, low: &mut [u16], v: usize)
         requires { Seeable self.now.up.now low.old v }
         ensures { SeenFrom self.now.up.now low.old low.new v }

@@ -19,7 +19,7 @@ fn write_front(out: &impl Print, text: &[u8], k: usize) -> io::Result<()>
 }
 
 // One site file over a lent desk. What the desk holds does not matter.
-// Kept: a loop without a count: the turns end where the file does (`Printing`).
+// Kept: no plainer as a `for`: there is no count, and the turns end where the file does (`Printing`).
 pub fn print_file(out: &impl Print, file: &[u8], desk: &mut Desk) -> io::Result<()> {
     let mut reader = turns::first();
     loop {

@@ -82,7 +82,7 @@ impl Page<'_> {
     }
 
     // A line, but none for the byte 0.
-    // Kept: its five are what a line has and nothing else in the crate has them together.
+    // Kept: a struct is no plainer: its five are what a line has, and nothing else in the crate has them together.
     fn line_for(&mut self, byte: u8, letter: u8, a: usize, b: usize)
         requires { HasRoom self.old (line_for byte letter a b) }
         ensures { Appends self.old (line_for byte letter a b) self.new }

@@ -25,7 +25,7 @@ impl Cell for u8 {
 }
 
 // A number, and the last byte that was read for it.
-// Kept: neither is a flag for the other, and both are always there.
+// Kept: an Option or an enum is no plainer: neither is a flag for the other, and both are always there.
 #[derive(Clone, Copy)]
 struct Entry {
     value: u16,

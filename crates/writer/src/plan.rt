@@ -1,5 +1,5 @@
 // What is lent of a plan, and its batches: cut off the front one by one.
-ghost use Rattle.std.specs.Prelude.{◌≡◌, ℕ, length, eqb};
+ghost use Rattle.std.specs.Prelude.{◌≡◌, length, eqb};
 ghost use Rattle.plain.specs.Table.{total};
 
 use tables::Verdict;

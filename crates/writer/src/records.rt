@@ -1,7 +1,7 @@
 // The records of the file. Each goes into the part of the buffer that is still free: it is lent on to a function that fills its front and leaves the
 // rest. Every function answers how many bytes it wrote.
 // Kept: a buffer and a count beside it, since document 01 lends `&mut out[at..]` on, and there is no heap. The kind is the byte that is written, as `record_of` takes it.
-ghost use Rattle.std.specs.Prelude.{◌≡◌, [], ◌∷◌, ◌≤◌, length};
+ghost use Rattle.std.specs.Prelude.{◌≤◌, length};
 ghost use Rattle.tables.specs.Tree.{most_machines};
 ghost use Rattle.tables.specs.Batch.{pairs};
 ghost use Rattle.sitefile.specs.Record.{record_of};

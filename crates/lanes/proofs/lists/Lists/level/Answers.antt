@@ -1,11 +1,7 @@
 -- Whoever the walk came by is in a lane.
 use Rattle.lanes.proofs.Grown.{known_lists}
-use Rattle.lanes.proofs.Walking.{headed}
 use Rattle.lanes.proofs.Laying.{level_start, level_noted, level_next}
 use Rattle.lanes.proofs.lists.Lists.level.Goals as goal
-
-pub on-v-items-requires : goal.on-v-items-requires
-on-v-items-requires c = headed (known_lists c.args.self.now) c.args.k c.requires.below
 
 pub loop-v-init : goal.loop-v-init
 loop-v-init c = rw c.into_iter-v-iterator.ensures.into_iter_gives (level_start (known_lists c.args.self.now) c.requires c.on-v-items.ensures.table c.on-v-items.ensures.start)

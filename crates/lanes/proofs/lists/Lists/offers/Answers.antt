@@ -1,11 +1,8 @@
 -- A list is walked from its head.
 use mathlib.Core.Path.{◌∙◌}
 use Rattle.lanes.proofs.Grown.{known_lists}
-use Rattle.lanes.proofs.Walking.{headed, set_out, noted_here}
+use Rattle.lanes.proofs.Walking.{set_out, noted_here}
 use Rattle.lanes.proofs.lists.Lists.offers.Goals as goal
-
-pub on-v-items-requires : goal.on-v-items-requires
-on-v-items-requires c = headed (known_lists c.args.self.now) c.args.k c.requires.below
 
 pub loop-v-init : goal.loop-v-init
 loop-v-init c = rw c.into_iter-v-iterator.ensures.into_iter_gives (set_out (known_lists c.args.self.now) c.on-v-items.ensures.table c.on-v-items.ensures.start)
