@@ -12,11 +12,11 @@ module _ {l d : ℕ} where
   unfolding asked
   ask_none h = rw (le-leb d l h)
 
-  ask_one : l < d → d - l ≡ 1 → 1 ≡ asked l d
+  pub ask_one : l < d → d - l ≡ 1 → 1 ≡ asked l d
   unfolding asked
   ask_one h e = rw (lt-leb d l h, eq-eqb (d - l) 1 e)
 
-  ask_two : l < d → d - l ≢ 1 → 2 ≡ asked l d
+  pub ask_two : l < d → d - l ≢ 1 → 2 ≡ asked l d
   unfolding asked
   ask_two h o = rw (lt-leb d l h, ne_eqb (d - l) 1 o)
 

@@ -25,7 +25,7 @@ module _ {depth low head next : List ℕ} {i : ℕ} (r : ListableAt depth low he
   free : at next i ≡ none
   free = r.listing.rest i (omega arith) r.here
 
-  head_in : {d : ℕ} → d ≡ at depth i → d < length head
+  pub head_in : {d : ℕ} → d ≡ at depth i → d < length head
   head_in e = rw (l.heads, e) (r.sorted.inside i r.here)
 
   -- whoever is listed is not i

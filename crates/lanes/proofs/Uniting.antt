@@ -59,7 +59,7 @@ module _ {g₀ g : List ℕ} {c x v : ℕ} (i : Rooting g₀ g c x v) where
   root_in = rw i.size i.near
 
   module _ (n : v ≢ x) where
-    root_less : v < x
+    pub root_less : v < x
     root_less = omega (arith, i.is, i.down.le x here_in)
 
     -- the entry of v is nearer to the name

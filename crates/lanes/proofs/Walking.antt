@@ -13,7 +13,7 @@ use Rattle.lanes.specs.Laying.{Noted}
 use Rattle.lanes.proofs.Grown.{Grounded}
 
 module _ {n : ℕ} {d : ℕ → ℕ} {head next : List ℕ} (l : Lists n d n head next) where
-  on_head : (k : ℕ) → OnList n d next k (at head k)
+  pub on_head : (k : ℕ) → OnList n d next k (at head k)
   on_head k v e = l.head_on k v e
 
   pub head_few : (k : ℕ) {x : ℕ} → x ≡ at head k → x ≤ n
@@ -39,7 +39,7 @@ module _ {n : ℕ} {d : ℕ → ℕ} {head next : List ℕ} (l : Lists n d n hea
     pub here_depth : d (x - 1) ≡ k
     here_depth = (here_on (x - 1) refl).2
 
-    on_next : OnList n d next k (at next (x - 1))
+    pub on_next : OnList n d next k (at next (x - 1))
     on_next u e = let (g, p, q) = l.next_on (x - 1) u here_in here_listed e in (omega (arith, here_in), p, q ∙ here_depth)
 
     next_less : {y : ℕ} → y ≡ at next (x - 1) → y < x
@@ -74,7 +74,7 @@ module _ {up head next : List ℕ} (g : Grounded up head next) {k : ℕ} where
     pub less : {y : ℕ} → y ≡ at next (x - 1) → y < x
     less = next_less g.lists o some
 
-    noted : {one two : List ℕ} → length one ≡ length up → length two ≡ length up → Noted up one two (x - 1)
+    pub noted : {one two : List ℕ} → length one ≡ length up → length two ≡ length up → Noted up one two (x - 1)
     noted p q = let h = here_in g.lists o some in record { few = g.few; here = h; above = g.tree.inside (x - 1) h; ones = p; twos = q }
 
 -- a walk of the list of depth k that stands at x of its table

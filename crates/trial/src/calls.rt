@@ -35,8 +35,8 @@ impl Slices<'_> {
 
     fn add(&mut self, out: &impl Print, from: &mut impl Read) -> io::Result<()> {
         let mut batch = [0u16; ROOM];
-        let batch = read::list(from, &mut batch)?;
-        let given = Site::add(self.up, self.depth, self.group, self.mark, batch);
+        let b = read::list(from, &mut batch)?;
+        let given = Site::add(self.up, self.depth, self.group, self.mark, &batch[..b]);
         print::answer(out, " add", given)
     }
 
@@ -61,11 +61,12 @@ impl Slices<'_> {
         let mut lengths = [0u16; MOST_LIST];
         let mut reports = [0u8; MOST_LIST];
         let mut buffer = [0u8; MOST_LIST];
-        let links = read::list(from, &mut links)?;
-        let lengths = read::list(from, &mut lengths)?;
-        let reports = read::list(from, &mut reports)?;
-        let buffer = read::list(from, &mut buffer)?;
-        let given = writer::write(self.up, links, lengths, reports, buffer);
+        let k = read::list(from, &mut links)?;
+        let b = read::list(from, &mut lengths)?;
+        let r = read::list(from, &mut reports)?;
+        let m = read::list(from, &mut buffer)?;
+        let buffer = &mut buffer[..m];
+        let given = writer::write(self.up, &links[..k], &lengths[..b], &reports[..r], buffer);
         print::answer(out, " write", given)?;
         print::table(out, "; buffer", buffer)
     }

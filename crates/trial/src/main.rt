@@ -26,13 +26,19 @@ fn site(out: &impl Print, from: &mut impl Read) -> io::Result<()> {
     let mut mark = [0u8; ROOM];
     let mut machines = [0u8; ROOM];
     let mut links = [0u8; ROOM];
+    let u = read::list(from, &mut up)?;
+    let d = read::list(from, &mut depth)?;
+    let g = read::list(from, &mut group)?;
+    let m = read::list(from, &mut mark)?;
+    let o = read::list(from, &mut machines)?;
+    let l = read::list(from, &mut links)?;
     let mut slices = Slices {
-        up: read::list(from, &mut up)?,
-        depth: read::list(from, &mut depth)?,
-        group: read::list(from, &mut group)?,
-        mark: read::list(from, &mut mark)?,
-        machines: read::list(from, &mut machines)?,
-        links: read::list(from, &mut links)?,
+        up: &up[..u],
+        depth: &mut depth[..d],
+        group: &mut group[..g],
+        mark: &mut mark[..m],
+        machines: &mut machines[..o],
+        links: &mut links[..l],
     };
     slices.all(out, from)
 }

@@ -1,5 +1,5 @@
 // Bytes, numbers and lists, from a stream.
-ghost use Rattle.std.specs.Prelude.{◌≤◌, length, IfOk};
+ghost use Rattle.std.specs.Prelude.{◌≡◌, ◌≤◌, length, take, IfOk};
 
 use std::io;
 use std::io::Read;
@@ -80,20 +80,21 @@ fn length(from: &mut impl Read, room: usize) -> io::Result<usize>
     Ok(if n > room { 0 } else { n })
 }
 
-// A list into the front of `to`, and that front: its length, a colon, numbers with commas between, and a space. The last number stands for the rest of
+// A list into the front of `to`, and how long it is: its length, a colon, numbers with commas between, and a space. The last number stands for the rest of
 // the length, and with a plus for the space they count on: `4:0,5 ` is 0,5,5,5 and `4:0,5+` is 0,5,6,7. An empty list is `0 `.
-pub fn list<'a, T: Cell>(from: &mut impl Read, to: &'a mut [T]) -> io::Result<&'a mut [T]>
-    ensures front { IfOk result (λ front. length front.now ≤ length to.old) }
+// Kept: a length and no front of `to`: of a slice whose part is handed back in a `Result` no clause can say that it keeps its length where a read fails.
+pub fn list<T: Cell>(from: &mut impl Read, to: &mut [T]) -> io::Result<usize>
+    ensures front { IfOk result (λ n. (n ≤ length to.new) × (n ≡ length (take n to.new))) }
+    ensures size { length to.new ≡ length to.old }
 {
     let n = length(from, to.len())?;
-    let front = &mut to[..n];
     let mut last = Entry {
         value: 0,
         end: b',',
     };
-    for place in front.iter_mut() {
+    for place in to[..n].iter_mut() {
         last = next(from, last)?;
         *place = T::of(last.value);
     }
-    Ok(front)
+    Ok(n)
 }
