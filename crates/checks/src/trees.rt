@@ -26,7 +26,12 @@ fn entries(up: &[u16]) -> Verdict
 fn hub_from(up: &[u16], from: usize) -> Option<usize>
     ensures { result ≡ below (length up.now) (hub_from up.now from) }
 {
-    (from..up.len()).find(|&v| up[v] as usize == v)
+    for v in from..up.len() {
+        if up[v] as usize == v {
+            return Some(v);
+        }
+    }
+    None
 }
 
 // The machine that names itself: the least, if there are several; the number of machines, if there is none.
