@@ -10,9 +10,8 @@ use lib.ListN.{length, length-append}
 use lib.Dec.{ltb}
 use borrow.Author.Tests.{lt-ltb, le-ltb}
 use Rattle.text.specs.Text.{digits, decimal}
-use Rattle.text.specs.declared.Page.{Page}
-use Rattle.text.specs.Written.{Appends, HasRoom}
-use Rattle.text.proofs.Appending.{then, reworded, room, room_first, room_reworded}
+use Rattle.text.specs.Written.{Lays}
+use Rattle.text.proofs.Laying.{then, reworded, room, room_first, room_reworded}
 
 tenth_below : (j n : ℕ) → n < 10 ^ suc (suc j) → n / 10 < 10 ^ suc j
 tenth_below j n h = omega (arith, h, pow-succ' 10 (suc j))
@@ -31,22 +30,22 @@ unfolding digits
 last_digit n h b = rw (le-ltb n 10 h) (ap (λ l. l ++ ((48 + n % 10) ∷ [])) (sym (enough 18 (n / 10) (omega arith))))
 
 -- there is room for each digit in turn
-module _ (p : Page) (n : ℕ) (h : HasRoom p (decimal n)) where
-  pub room_one : n < 10 → p.at < length p.out.now
-  room_one b = omega (arith, b, room_reworded p (sym (one_digit n b)) h)
+module _ (i n : ℕ) (l : List ℕ) (h : i + length (decimal n) ≤ length l) where
+  pub room_one : n < 10 → i < length l
+  room_one b = omega (arith, b, room_reworded i (length l) (sym (one_digit n b)) h)
 
   module _ (big : 10 ≤ n) (fits : n < 2 ^ 64) where
-    room_both : HasRoom p (decimal (n / 10) ++ ((48 + n % 10) ∷ []))
-    room_both = room_reworded p (sym (last_digit n big fits)) h
+    room_both : i + length (decimal (n / 10) ++ ((48 + n % 10) ∷ [])) ≤ length l
+    room_both = room_reworded i (length l) (sym (last_digit n big fits)) h
 
-    pub room_tenth : HasRoom p (decimal (n / 10))
-    room_tenth = room_first p (decimal (n / 10)) ((48 + n % 10) ∷ []) room_both
+    pub room_tenth : i + length (decimal (n / 10)) ≤ length l
+    room_tenth = room_first i (length l) (decimal (n / 10)) ((48 + n % 10) ∷ []) room_both
 
-    pub room_last : {q : Page} → Appends p (decimal (n / 10)) q → q.at < length q.out.now
+    pub room_last : {m : List ℕ} {j : ℕ} → Lays l i (decimal (n / 10)) m j → j < length m
     room_last a = omega (arith, room ((48 + n % 10) ∷ []) room_both a)
 
-pub all_digits : {p q r : Page} (n : ℕ) → 10 ≤ n → n < 2 ^ 64 → Appends p (decimal (n / 10)) q → Appends q ((48 + n % 10) ∷ []) r → Appends p (decimal n) r
-all_digits n h b x y = reworded (last_digit n h b) (then x y)
+pub all_digits : {l m o : List ℕ} {i j k : ℕ} (n : ℕ) → 10 ≤ n → n < 2 ^ 64 → Lays l i (decimal (n / 10)) m j → Lays m j ((48 + n % 10) ∷ []) o k → Lays l i (decimal n) o k
+all_digits n h b p q = reworded (last_digit n h b) (then p q)
 
 one_more : (b : Bool) (x y j : ℕ) (l : List ℕ) → length l ≤ j → length (cond b (x ∷ []) (l ++ (y ∷ []))) ≤ suc j
 one_more true x y j l h = omega arith

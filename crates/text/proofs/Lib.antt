@@ -1,3 +1,4 @@
+pub mod Laying
 pub mod Appending
 pub mod Digits
 pub mod OneLine

@@ -85,7 +85,7 @@ module _ (up machines links buffer : List ℕ) {b : Bool} (e : b ≡ report_fits
 
     module _ {r : Page} (second : Appends q (uplink_part up links) r) where
       pub room_totals : r.at + 44 ≤ length r.out.now
-      room_totals = let s = fit in omega (arith, z, ap length o, machines_few, uplinks_few, first.next, second.next, size first, size second)
+      room_totals = let s = fit in omega (arith, z, ap length o, machines_few, uplinks_few, first.laid.next, second.laid.next, size first, size second)
 
       pub reported : {t : Page} → Appends r (total_part machines links) t → outcome (Some t.at) t.out.now ≡ report_written up machines links buffer
       unfolding report_written

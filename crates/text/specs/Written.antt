@@ -28,12 +28,16 @@ report_written up machines links buffer =
     (report_text up (bytes_of machines links))
     buffer
 
+-- a text was laid over a buffer from this place on, and this is the place behind it
+pub record Lays (before : List ℕ) (place : ℕ) (text after : List ℕ) (answer : ℕ) : Type 0 where
+  pub bytes : after ≡ sets before place text
+  pub next : answer ≡ place + length text
+
 -- there is room on the page for this text
 abbrev pub HasRoom : Page → List ℕ → Type 0
 HasRoom page text = page.at + length text ≤ length page.out.now
 
--- an inner call wrote this text from the page's place on, and moved the place behind it; the page lies on the same buffer
+-- an inner call laid this text over the page's buffer from the page's place on, and moved the place behind it; the page lies on the same buffer
 pub record Appends (before : Page) (text : List ℕ) (after : Page) : Type 0 where
-  pub bytes : after.out.now ≡ sets before.out.now before.at text
-  pub next : after.at ≡ before.at + length text
+  pub laid : Lays before.out.now before.at text after.out.now after.at
   pub same : after.out.ghost_name ≡ before.out.ghost_name

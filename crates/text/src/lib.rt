@@ -5,7 +5,7 @@ ghost use Rattle.std.specs.Prelude.{◌≡◌, [], ◌∷◌, ◌+◌, ◌<◌, 
 ghost use Rattle.tables.specs.Outcome.{outcome};
 ghost use Rattle.tables.specs.Report.{named};
 ghost use Rattle.text.specs.Text.{decimal, line, line_for, machine_lines, uplink_lines};
-ghost use Rattle.text.specs.Written.{Appends, HasRoom, refusal_written, report_fits, report_written};
+ghost use Rattle.text.specs.Written.{Appends, HasRoom, Lays, refusal_written, report_fits, report_written};
 
 use tables::Answer;
 
@@ -27,8 +27,26 @@ fn fits(n: usize, machines: usize, links: usize, room: usize) -> bool
     n <= checks::MACHINES && machines == n && links == n && 24 * n + 64 <= room
 }
 
+// A number in decimal, from a place on: the digits of a tenth of it, then its last one. Answers the place behind it.
+// Kept: a buffer and a place, and no method of `Page`: tried, and a report's text took 1.9 times as long, for a page that is lent to a call of itself lies in memory, and
+// the place of each byte waits for that of the one before (docs/LOOK-BACK.md).
+// Kept: `write!` promises its bytes only where it answers Ok, and `report_written` promises the text wherever there is room; with the crate itoa
+// the call and the copy of its digits are no shorter than this, and the line that text/last_digit_wrong makes wrong would be none of ours.
+fn decimal(out: &mut [u8], at: usize, n: usize) -> usize
+    requires { at + length (decimal n) ≤ length out.old }
+    ensures { Lays out.old at (decimal n) out.new result }
+{
+    if n < 10 {
+        out[at] = b'0' + n as u8;
+        return at + 1;
+    }
+    let last = decimal(out, at, n / 10);
+    out[last] = b'0' + (n % 10) as u8;
+    last + 1
+}
+
 // A lent buffer, and the place up to which it is written.
-// Kept: a buffer and a place in it: no heap. `HasRoom` stands in the contracts of six of the eight methods, for it speaks of what is about to be written.
+// Kept: a buffer and a place in it: no heap. `HasRoom` stands in the contracts of five of the seven methods, for it speaks of what is about to be written.
 #[derive(Drop)]
 struct Page<'a> {
     out: &'a mut [u8],
@@ -45,28 +63,13 @@ impl Page<'_> {
         self.at += 1;
     }
 
-    // A number in decimal: the digits of a tenth of it, then its last one.
-    // Kept: `write!` promises its bytes only where it answers Ok, and `report_written` promises the text wherever there is room; with the crate itoa
-    // the call and the copy of its digits are no shorter than this, and the line that text/last_digit_wrong makes wrong would be none of ours.
-    fn decimal(&mut self, n: usize)
-        requires { HasRoom self.old (decimal n) }
-        ensures { Appends self.old (decimal n) self.new }
-    {
-        if n < 10 {
-            self.put(b'0' + n as u8);
-        } else {
-            self.decimal(n / 10);
-            self.put(b'0' + (n % 10) as u8);
-        }
-    }
-
     // A space and a number.
     fn field(&mut self, n: usize)
         requires { HasRoom self.old (32 ∷ decimal n) }
         ensures { Appends self.old (32 ∷ decimal n) self.new }
     {
         self.put(b' ');
-        self.decimal(n);
+        self.at = decimal(self.out, self.at, n);
     }
 
     // A letter, two numbers and a line end.
