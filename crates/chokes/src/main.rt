@@ -9,5 +9,5 @@ fn main(rt: HostRuntime) -> io::Result<()> {
     let mut file = [0u8; turns::MOST_BYTES + 1];
     let mut desk = Desk::new();
     let k = intake::read_full(&mut rt.reader(), &mut file)?;
-    printer::print_file(&rt, &file[..k], &mut desk)
+    printer::print_on(&rt, &file[..k], &mut desk)
 }

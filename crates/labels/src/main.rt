@@ -42,7 +42,7 @@ fn answer_all(
         let Some(front) = read_next(from, file)? else {
             return Ok(());
         };
-        printer::print_file(out, front, desk)?;
+        printer::print_on(out, front, desk)?;
         out.write_all(b".\n")?;
     }
     Ok(())

@@ -117,7 +117,7 @@ module _ (bytes : List ℕ) (r : Reader) (up depth group mark batch machines lin
   unfolding leads file.done file.link read_of
   link_full f a = rw (opened_size, told f q, a, f)
 
-  pub link_read : {a b : ℕ} → a ≡ word (body_of bytes r.place) 0 → b ≡ word (body_of bytes r.place) 1 → c ≡ Sound → length up ≡ most_machines
+  pub link_read : {a b : ℕ} → a ≡ word (body_of bytes r.place) 0 → b ≡ word (body_of bytes r.place) 1 → c ≡ Sound → r.ups ≤ length up
       → outcome (steps.Read (reader_at (r.place + 5) r.n r.ups (r.opened + 2))) (room_of up depth group mark (set (set batch r.opened a) (r.opened + 1) b) machines links)
       ≡ leads bytes r due.Link room₃
   unfolding leads file.done file.link read_of holding body_length
@@ -125,4 +125,4 @@ module _ (bytes : List ℕ) (r : Reader) (up depth group mark batch machines lin
       let p : r.place + 1 + 4 ≡ r.place + 5 = omega arith in
       let h : r.opened + 2 ≤ length batch = omega (arith, link_room d q f) in
       rw (sym ea, sym eb, opened_size, told f q)
-      (simp laid_front (rw (add-one r.opened, laid_more batch (a ∷ b ∷ []) r.opened h, p, length-take-le r.ups up (omega (arith, d.ups)), length_more batch (a ∷ b ∷ []) r.opened (omega (arith, d.inside)))))
+      (simp laid_front (rw (add-one r.opened, laid_more batch (a ∷ b ∷ []) r.opened h, p, length-take-le r.ups up l, length_more batch (a ∷ b ∷ []) r.opened (omega (arith, d.inside)))))

@@ -52,7 +52,10 @@ module _ (bytes : List ℕ) (r : Reader) {d : Due} {b : Bool} (e : b ≡ counts_
 
   pub link_due : d ≡ due.Link → LinkDue bytes r
   unfolding DueFacts
-  link_due h = let k = fit in record { body = facts h; inside = k.1.1.0; pairs = k.1.1.1; ups = omega arith }
+  link_due h = let k = fit in record { body = facts h; inside = k.1.1.0; pairs = k.1.1.1 }
+
+  pub ups_inside : {up : ℕ} → up ≡ most_machines → r.ups ≤ up
+  ups_inside u = let k = fit in omega arith
 
   -- over arrays that have room for any site
   module _ {up depth group mark : ℕ} (u : up ≡ most_machines) (p : depth ≡ most_machines) (q : group ≡ most_machines) (m : mark ≡ most_machines) where
@@ -68,7 +71,7 @@ module _ (bytes : List ℕ) (r : Reader) {d : Due} {b : Bool} (e : b ≡ counts_
     unfolding DueFacts
     report_due h s a b = let t = facts h in let k = fit in record { low = omega arith; grown = t.1; fronts = fronts; in_machines = omega arith; in_links = omega arith }
 
--- the end and a refusal leave the room alone
+-- the end and a refusal leave the arrays alone
 module _ (bytes : List ℕ) (r : Reader) (room : Room) where
   pub end_done : outcome steps.End room ≡ leads bytes r due.End room
   unfolding leads file.done

@@ -43,7 +43,6 @@ pub record LinkDue (bytes : List ℕ) (r : Reader) : Type 0 where
   pub body : r.place + 5 ≤ length bytes
   pub inside : r.opened ≤ 2 * most_links
   pub pairs : r.opened % 2 ≡ 0
-  pub ups : r.ups ≤ most_machines
 
 pub record CloseDue (r : Reader) (up depth group mark batch : ℕ) : Type 0 where
   pub low : r.place + 1 < 2 ^ 64

@@ -1,19 +1,19 @@
-// One record of each kind.
+// One record of each kind, over what it touches of the lent arrays.
 ghost use Rattle.std.specs.Prelude.{◌≡◌, List, ℕ, ◌+◌, ◌≤◌, length};
 ghost use Rattle.tables.specs.Outcome.{outcome};
 ghost use Rattle.tables.specs.Tables.{tables_of};
-ghost use Rattle.sitefile.specs.Next.{as_room, room_of};
+ghost use Rattle.sitefile.specs.Next.{Room, room_of};
 ghost use Rattle.sitefile.specs.Reading.{leads, start_front, StartDue, UplinkDue, LinkDue, CloseDue, ReportDue};
 
 use crate::due::Due;
-use crate::{Reader, Room, Step, record};
+use crate::{Reader, Step, record};
 use site::Site;
 use tables::{Answer, Verdict};
 
 // Kind 1: the number of machines.
 pub fn size(file: &[u8], r: Reader) -> Step
     requires { r.place + 3 ≤ length file.now }
-    ensures { (room : Room) → outcome result (as_room room) ≡ leads file.now r Due.Size (as_room room) }
+    ensures { (room : Room) → outcome result room ≡ leads file.now r Due.Size room }
 {
     let body = record::body(file, r.place);
     let n = record::word(body, 0) as usize;
@@ -30,7 +30,7 @@ pub fn size(file: &[u8], r: Reader) -> Step
 }
 
 // Start over the front parts of the tables.
-// Kept: slices and no room, here and for kinds 4 and 5: tried, and of a room's array whose part is lent the prover knows no value afterwards.
+// Kept: slices, here and for kinds 4 and 5: front parts alone are lent on. Tried as fields of one room, and of a room's array whose part is lent the prover knows no value afterwards.
 fn start(up: &[u16], n: usize, depth: &mut [u16], group: &mut [u16], mark: &mut [u8]) -> Answer
     requires { StartDue n (length up.now) (length depth.old) (length group.old) (length mark.old) }
     ensures { outcome result (tables_of depth.new group.new mark.new)
@@ -40,14 +40,23 @@ fn start(up: &[u16], n: usize, depth: &mut [u16], group: &mut [u16], mark: &mut 
 }
 
 // Kind 2: the up of the next machine. Start runs after the last; where it refuses, the entry is put back.
-pub fn uplink(file: &[u8], r: Reader, room: &mut Room) -> Step
+// Kept: arrays by themselves, here and for kind 3, as `read::next` is lent them; their types say how long they are.
+pub fn uplink(
+    file: &[u8],
+    r: Reader,
+    up: &mut [u16; Site::MACHINES],
+    depth: &mut [u16; Site::MACHINES],
+    group: &mut [u16; Site::MACHINES],
+    mark: &mut [u8; Site::MACHINES],
+) -> Step
     requires { UplinkDue file.now r }
-    ensures { outcome result (as_room room.new) ≡ leads file.now r Due.Uplink (as_room room.old) }
+    ensures { (batch machines links : List ℕ) → outcome result (room_of up.new depth.new group.new mark.new batch machines links)
+        ≡ leads file.now r Due.Uplink (room_of up.old depth.old group.old mark.old batch machines links) }
 {
     let ups = r.ups;
-    let old = room.up[ups];
+    let old = up[ups];
     let body = record::body(file, r.place);
-    room.up[ups] = record::word(body, 0);
+    up[ups] = record::word(body, 0);
     let next = Reader {
         place: r.place + 3,
         ups: ups + 1,
@@ -57,24 +66,19 @@ pub fn uplink(file: &[u8], r: Reader, room: &mut Room) -> Step
     if next.ups < r.n {
         return Step::Read(next);
     }
-    let a = start(
-        &room.up,
-        r.n,
-        &mut room.depth,
-        &mut room.group,
-        &mut room.mark,
-    );
+    let a = start(up, r.n, depth, group, mark);
     if a.code == 0 {
         return Step::Read(next);
     }
-    room.up[ups] = old;
+    up[ups] = old;
     Step::Refused(a)
 }
 
 // Kind 3: a link, kept until its batch is closed.
-pub fn link(file: &[u8], r: Reader, room: &mut Room) -> Step
+pub fn link(file: &[u8], r: Reader, batch: &mut [u16; 2 * Site::LINKS]) -> Step
     requires { LinkDue file.now r }
-    ensures { outcome result (as_room room.new) ≡ leads file.now r Due.Link (as_room room.old) }
+    ensures { (up depth group mark machines links : List ℕ) → r.ups ≤ length up → outcome result (room_of up depth group mark batch.new machines links)
+        ≡ leads file.now r Due.Link (room_of up depth group mark batch.old machines links) }
 {
     let opened = r.opened;
     let most = checks::numbers(opened + 2);
@@ -82,8 +86,8 @@ pub fn link(file: &[u8], r: Reader, room: &mut Room) -> Step
         return Step::Refused(checks::answer(most, 0));
     };
     let body = record::body(file, r.place);
-    room.batch[opened] = record::word(body, 0);
-    room.batch[opened + 1] = record::word(body, 1);
+    batch[opened] = record::word(body, 0);
+    batch[opened + 1] = record::word(body, 1);
     Step::Read(Reader {
         place: r.place + 5,
         opened: opened + 2,

@@ -2,7 +2,8 @@
 #![tactic(auto)]
 
 ghost use Rattle.std.specs.Prelude.{◌≡◌};
-ghost use Rattle.sitefile.specs.Next.{empty};
+ghost use Rattle.tables.specs.Outcome.{outcome};
+ghost use Rattle.sitefile.specs.Next.{as_room, empty, next_of};
 
 mod due;
 mod kinds;
@@ -66,5 +67,22 @@ impl Room {
             machines: [0; Site::MACHINES],
             links: [0; Site::MACHINES],
         }
+    }
+
+    // Reads the next record of a site file into the room. A refusal and the end leave it as it came.
+    pub fn next(&mut self, file: &[u8], r: Reader) -> Step
+        ensures { outcome result (as_room self.new) ≡ next_of file.now r (as_room self.old) }
+    {
+        read::next(
+            file,
+            r,
+            &mut self.up,
+            &mut self.depth,
+            &mut self.group,
+            &mut self.mark,
+            &mut self.batch,
+            &mut self.machines,
+            &mut self.links,
+        )
     }
 }

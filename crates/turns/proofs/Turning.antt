@@ -1,4 +1,4 @@
--- A turn as the code takes it: 13 first, and then what the next record came to, in text. The desk's text has room for any.
+-- A turn as the code takes it: 13 first, and then what the next record came to, in text. The text has room for any.
 use mathlib.Core.Path.{◌≡◌, refl, sym, ap, ◌∙◌}
 use mathlib.Core.Bool.{true}
 use mathlib.Core.List.{List}
@@ -12,14 +12,16 @@ use Rattle.tables.specs.declared.Answer.{Answer}
 use Rattle.tables.specs.declared.Fault.{Fault}
 use Rattle.tables.specs.Tree.{most_machines}
 use Rattle.tables.specs.Answer.{refusal}
+use Rattle.tables.specs.Report.{bytes_of}
 use Rattle.tables.specs.Outcome.{Outcome, outcome}
-use Rattle.text.specs.Text.{refusal_text}
+use Rattle.text.specs.Text.{report_text, refusal_text}
 use Rattle.text.specs.Written.{written, refusal_written, report_written}
 use Rattle.text.specs.Written as fits
 use Rattle.sitefile.specs.declared.Reader.{Reader}
 use Rattle.sitefile.specs.declared.Step.{Step}
+use Rattle.sitefile.specs.declared.Step.TheVariants as steps
 use Rattle.sitefile.specs.declared.Room as code
-use Rattle.sitefile.specs.Next.{Room, as_room, empty, next_of}
+use Rattle.sitefile.specs.Next.{Room, room_of, empty, next_of}
 use Rattle.turns.specs.declared.Desk as code_desk
 use Rattle.turns.specs.declared.Turn.{Turn}
 use Rattle.turns.specs.declared.Turn.TheVariants as turns
@@ -53,25 +55,36 @@ module _ (a : Answer) (text : List ℕ) (t : length text ≡ most_text) {o : Opt
   refusal_told room q = rw (length_is _ _ refusal_in q, ap (λ x. x.lent) refusal_in)
 
 -- and for that of a report
-module _ (r : Reader) (room : code.Room) (text : List ℕ) (few : r.n ≤ most_machines) (u : length room.up ≡ most_machines)
-    (m : length room.machines ≡ most_machines) (l : length room.links ≡ most_machines) (t : length text ≡ most_text) {o : Option ℕ} {text' : List ℕ}
-    (e : outcome o text' ≡ report_written (take r.n room.up) (take r.n room.machines) (take r.n room.links) text) where
-  report_in : outcome o text' ≡ written true (shown r (as_room room)) text
+module _ (r : Reader) (up machines links text : List ℕ) (few : r.n ≤ most_machines) (u : length up ≡ most_machines)
+    (m : length machines ≡ most_machines) (l : length links ≡ most_machines) (t : length text ≡ most_text) {o : Option ℕ} {text' : List ℕ}
+    (e : outcome o text' ≡ report_written (take r.n up) (take r.n machines) (take r.n links) text) where
+  report_in : outcome o text' ≡ written true (report_text (take r.n up) (bytes_of (take r.n machines) (take r.n links))) text
   unfolding report_written
   report_in =
       let n = r.n in
-      let up = take n room.up in
-      let machines = take n room.machines in
-      let links = take n room.links in
-      let f : fits.report_fits (length up) (length machines) (length links) (length text) ≡ true =
-      rw (length-take-le n room.up (omega arith), length-take-le n room.machines (omega arith), length-take-le n room.links (omega arith), le-leb n most_machines few, eq-eqb n n refl, le-leb (24 * n + 64) (length text) (omega arith)) in
+      let f : fits.report_fits (length (take n up)) (length (take n machines)) (length (take n links)) (length text) ≡ true =
+      rw (length-take-le n up (omega arith), length-take-le n machines (omega arith), length-take-le n links (omega arith), le-leb n most_machines few, eq-eqb n n refl, le-leb (24 * n + 64) (length text) (omega arith)) in
       rw f at e
 
   pub report_fits : IsSome o
   report_fits = there _ _ report_in
 
-  pub report_told : {k : ℕ} → o ≡ Some k → outcome (turns.More r k) (desk (as_room room) text') ≡ more (shown r (as_room room)) r (as_room room) text
-  report_told q = rw (length_is _ _ report_in q, ap (λ x. x.lent) report_in)
+  pub report_told : {k : ℕ} (depth group mark batch : List ℕ) → o ≡ Some k
+      → outcome (turns.More r k) (desk (room_of up depth group mark batch machines links) text')
+      ≡ more (shown r (room_of up depth group mark batch machines links)) r (room_of up depth group mark batch machines links) text
+  report_told depth group mark batch q = rw (length_is _ _ report_in q, ap (λ x. x.lent) report_in)
+
+-- what a step comes to, in text
+module _ (up depth group mark batch machines links text : List ℕ) where
+  abbrev own : Room
+  own = room_of up depth group mark batch machines links
+
+  module _ {s : Step} {o : Outcome Turn Desk} where
+    pub told_report : {r : Reader} → s ≡ steps.Report r → o ≡ more (shown r own) r own text → o ≡ told_by s own text
+    told_report e q = rw e q
+
+    pub told_refused : {a : Answer} → s ≡ steps.Refused a → o ≡ last (refusal_text a) own text → o ≡ told_by s own text
+    told_refused e q = rw e q
 
 -- the tests of a turn, in their order
 module _ (file : List ℕ) (r : Reader) (room : Room) (text : List ℕ) where

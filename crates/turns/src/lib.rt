@@ -2,15 +2,16 @@
 // turn, as many bytes of the buffer as the turn told writes what is printed for the file: `Printing` of specs/Turn.antt.
 #![tactic(auto)]
 
-ghost use Rattle.std.specs.Prelude.{◌≡◌, ◌≤◌};
+ghost use Rattle.std.specs.Prelude.{◌≡◌, List, ℕ, ◌≤◌};
 ghost use Rattle.tables.specs.Tree.{most_machines};
 ghost use Rattle.tables.specs.Outcome.{outcome};
 ghost use Rattle.text.specs.Text.{refusal_text};
 ghost use Rattle.sitefile.specs.File.{begin, reader_of};
-ghost use Rattle.sitefile.specs.Next.{as_room};
+ghost use Rattle.sitefile.specs.Next.{Room as Slices, room_of};
 ghost use Rattle.turns.specs.Turn.{as_desk, bare, desk, last, more, shown, told_by, turn_of};
 ghost use Rattle.turns.specs.Telling.{TellDue};
 
+use site::Site;
 use sitefile::{Reader, Room, Step, read};
 use tables::{Answer, Fault};
 
@@ -34,6 +35,24 @@ impl Desk {
             room: Room::new(),
             text: [0; text::MOST_TEXT],
         }
+    }
+
+    // Takes the next record of a site file, and lays what it prints over the front of the desk's text.
+    pub fn take(&mut self, file: &[u8], r: Reader) -> Turn
+        ensures { outcome result (as_desk self.new) ≡ turn_of file.now r (as_desk self.old) }
+    {
+        take(
+            file,
+            r,
+            &mut self.room.up,
+            &mut self.room.depth,
+            &mut self.room.group,
+            &mut self.room.mark,
+            &mut self.room.batch,
+            &mut self.room.machines,
+            &mut self.room.links,
+            &mut self.text,
+        )
     }
 }
 
@@ -62,43 +81,73 @@ pub fn first() -> Reader
 }
 
 // The text of the report that stands in the outputs.
-fn show(next: Reader, room: &Room, text: &mut [u8; text::MOST_TEXT]) -> Turn
+// Kept: arrays by themselves, here and in `tell`, as `take` is lent them; their types say how long they are.
+fn show(
+    next: Reader,
+    up: &[u16; Site::MACHINES],
+    machines: &[u8; Site::MACHINES],
+    links: &[u8; Site::MACHINES],
+    text: &mut [u8; text::MOST_TEXT],
+) -> Turn
     requires { next.n ≤ most_machines }
-    ensures { outcome result (desk (as_room room.now) text.new) ≡ more (shown next (as_room room.now)) next (as_room room.now) text.old }
+    ensures { (depth group mark batch : List ℕ)
+        → outcome result (desk (room_of up.now depth group mark batch machines.now links.now) text.new)
+        ≡ more (shown next (room_of up.now depth group mark batch machines.now links.now)) next (room_of up.now depth group mark batch machines.now links.now) text.old }
 {
     let n = next.n;
-    let k = text::report(&room.up[..n], &room.machines[..n], &room.links[..n], text).unwrap();
+    let k = text::report(&up[..n], &machines[..n], &links[..n], text).unwrap();
     Turn::More(next, k)
 }
 
 // The text of a refusal, which is the last.
-fn refuse(refusal: Answer, desk: &mut Desk) -> Turn
-    ensures { outcome result (as_desk desk.new) ≡ last (refusal_text refusal) (as_room desk.old.room) desk.old.text }
+fn refuse(refusal: Answer, text: &mut [u8; text::MOST_TEXT]) -> Turn
+    ensures { (room : Slices) → outcome result (desk room text.new) ≡ last (refusal_text refusal) room text.old }
 {
-    Turn::Done(text::refusal(refusal, &mut desk.text).unwrap())
+    Turn::Done(text::refusal(refusal, text).unwrap())
 }
 
 // What the next record came to, with its text.
-fn tell(step: Step, desk: &mut Desk) -> Turn
+fn tell(
+    step: Step,
+    up: &[u16; Site::MACHINES],
+    machines: &[u8; Site::MACHINES],
+    links: &[u8; Site::MACHINES],
+    text: &mut [u8; text::MOST_TEXT],
+) -> Turn
     requires { TellDue step }
-    ensures { outcome result (as_desk desk.new) ≡ told_by step (as_room desk.old.room) desk.old.text }
+    ensures { (depth group mark batch : List ℕ)
+        → outcome result (desk (room_of up.now depth group mark batch machines.now links.now) text.new)
+        ≡ told_by step (room_of up.now depth group mark batch machines.now links.now) text.old }
 {
     match step {
         Step::Read(next) => Turn::More(next, 0),
-        Step::Report(next) => show(next, &desk.room, &mut desk.text),
+        Step::Report(next) => show(next, up, machines, links, text),
         Step::End => Turn::Done(0),
-        Step::Refused(refusal) => refuse(refusal, desk),
+        Step::Refused(refusal) => refuse(refusal, text),
         Step::Unfit => Turn::Unfit,
     }
 }
 
-// Takes the next record of a site file, and lays what it prints over the front of the desk's text.
-pub fn take(file: &[u8], r: Reader, desk: &mut Desk) -> Turn
-    ensures { outcome result (as_desk desk.new) ≡ turn_of file.now r (as_desk desk.old) }
+// Takes the next record of a site file, and lays what it prints over the front of the text.
+// Kept: eight arrays, and `Desk::take` beside it: each is lent by itself, so that a caller who was lent them need not copy them (docs/LOOK-BACK.md).
+pub fn take(
+    file: &[u8],
+    r: Reader,
+    up: &mut [u16; Site::MACHINES],
+    depth: &mut [u16; Site::MACHINES],
+    group: &mut [u16; Site::MACHINES],
+    mark: &mut [u8; Site::MACHINES],
+    batch: &mut [u16; 2 * Site::LINKS],
+    machines: &mut [u8; Site::MACHINES],
+    links: &mut [u8; Site::MACHINES],
+    text: &mut [u8; text::MOST_TEXT],
+) -> Turn
+    ensures { outcome result (desk (room_of up.new depth.new group.new mark.new batch.new machines.new links.new) text.new)
+        ≡ turn_of file.now r (desk (room_of up.old depth.old group.old mark.old batch.old machines.old links.old) text.old) }
 {
     if MOST_BYTES < file.len() {
-        return refuse(checks::refusal(Fault::Long, MOST_BYTES), desk);
+        return refuse(checks::refusal(Fault::Long, MOST_BYTES), text);
     }
-    let step = read::next(file, r, &mut desk.room);
-    tell(step, desk)
+    let step = read::next(file, r, up, depth, group, mark, batch, machines, links);
+    tell(step, up, machines, links, text)
 }

@@ -1,4 +1,4 @@
--- `refuse`: the desk's text has room for a refusal.
+-- `refuse`: the text has room for a refusal.
 use Rattle.turns.proofs.Turning.{refusal_fits, refusal_told}
 use Rattle.turns.proofs.refuse.Goals as goal
 
@@ -6,4 +6,4 @@ pub unwrap-requires : goal.unwrap-requires
 unwrap-requires c = search refusal_fits
 
 pub returns : goal.returns
-returns c = search refusal_told
+returns c room = search refusal_told

@@ -1,4 +1,4 @@
--- `show`: the desk's text has room for a report on as many machines as a room has.
+-- `show`: the text has room for a report on as many machines as the arrays have.
 use Rattle.turns.proofs.Turning.{report_fits, report_told}
 use Rattle.turns.proofs.show.Goals as goal
 
@@ -6,4 +6,4 @@ pub unwrap-k-requires : goal.unwrap-k-requires
 unwrap-k-requires c = search report_fits
 
 pub returns : goal.returns
-returns c = search report_told
+returns c depth group mark batch = search report_told

@@ -4,13 +4,13 @@ use Rattle.sitefile.proofs.ReadKinds.{number_in, link_room, link_full, link_read
 use Rattle.sitefile.proofs.kinds.link.Goals as goal
 
 pub returns-in_default : goal.returns-in_default
-returns-in_default c = search link_full
+returns-in_default c up depth group mark machines links h = search link_full
 
-pub bounds-room-opened : goal.bounds-room-opened
-bounds-room-opened c = let k = link_room c.requires c.numbers-most.ensures c.in-Sound.is in omega arith
+pub bounds-batch-opened : goal.bounds-batch-opened
+bounds-batch-opened c = let k = link_room c.requires c.numbers-most.ensures c.in-Sound.is in omega arith
 
-pub bounds-room-opened-2 : goal.bounds-room-opened-2
-bounds-room-opened-2 c = search link_room
+pub bounds-batch-opened-2 : goal.bounds-batch-opened-2
+bounds-batch-opened-2 c = search link_room
 
 pub returns : goal.returns
-returns c = search (link_read, number_in)
+returns c up depth group mark machines links h = search (link_read, number_in)

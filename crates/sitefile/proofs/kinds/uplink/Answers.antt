@@ -3,10 +3,10 @@ use Rattle.sitefile.proofs.ReadKinds.{number_in, uplink_more, uplink_last, uplin
 use Rattle.sitefile.proofs.kinds.uplink.Goals as goal
 
 pub returns-then-next-r : goal.returns-then-next-r
-returns-then-next-r c = search (uplink_more, number_in)
+returns-then-next-r c batch machines links = search (uplink_more, number_in)
 
 pub returns-then-a-eq0 : goal.returns-then-a-eq0
-returns-then-a-eq0 c = search (uplink_last, number_in)
+returns-then-a-eq0 c batch machines links = search (uplink_last, number_in)
 
 pub returns : goal.returns
-returns c = search (uplink_refused, number_in)
+returns c batch machines links = search (uplink_refused, number_in)

@@ -1,5 +1,5 @@
 -- `read::next`: a reader that does not fit is answered at once; else what is due is done by the function of its kind.
-use Rattle.sitefile.proofs.ReadNext.{size_due, uplink_due, link_due, close_due, report_due, end_done, stop_done, next_unfit, next_done}
+use Rattle.sitefile.proofs.ReadNext.{size_due, uplink_due, link_due, close_due, report_due, end_done, stop_done, next_unfit, next_done, ups_inside}
 use Rattle.sitefile.proofs.read.next.Goals as goal
 
 pub returns-then-not-counts_fit : goal.returns-then-not-counts_fit
@@ -30,10 +30,10 @@ pub returns-in-Size : goal.returns-in-Size
 returns-in-Size c = search (next_done, c.size.ensures)
 
 pub returns-in-Uplink : goal.returns-in-Uplink
-returns-in-Uplink c = search (next_done)
+returns-in-Uplink c = search (next_done, c.uplink.ensures)
 
 pub returns-in-Link : goal.returns-in-Link
-returns-in-Link c = search (next_done)
+returns-in-Link c = search (next_done, c.link.ensures, ups_inside)
 
 pub returns-in-Close : goal.returns-in-Close
 returns-in-Close c = search (next_done, c.close.ensures)
