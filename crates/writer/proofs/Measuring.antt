@@ -36,7 +36,7 @@ module _ (file room : ℕ) where
 
 -- the batches that are left are still to be counted
 pub record Measuring (n : ℕ) (plan left : List Part) (sum : ℕ) : Type 0 where
-  pub few : sum ≤ 5 * 2 ^ 61 + 2 ^ 15
+  pub few : sum ≤ 2 ^ 24
   pub rest : sum + length (plan_records left) ≡ 3 + 3 * n + length (plan_records plan)
 
 module _ {n : ℕ} {plan left : List Part} {sum : ℕ} (m : Measuring n plan left sum) where
@@ -49,7 +49,7 @@ module _ {n : ℕ} {plan left : List Part} {sum : ℕ} (m : Measuring n plan lef
       let q : sum ≡ 3 + 3 * n + length (plan_records plan) = omega (arith, ap length (plan_end e), m.rest) in
       record { short = λ _. q; long = λ _. q }
 
-  pub summed_more : {p : Part} {rest : List Part} {r : ℕ} → left ≡ p ∷ rest → sum ≤ most_bytes → r ≡ length (batch_records p.batch p.report) → r ≤ 5 * 2 ^ 61 + 2 → Measuring n plan rest (sum + r)
+  pub summed_more : {p : Part} {rest : List Part} {r : ℕ} → left ≡ p ∷ rest → sum ≤ most_bytes → r ≡ length (batch_records p.batch p.report) → r ≤ 5 * 2 ^ 16 → Measuring n plan rest (sum + r)
   summed_more {p} {rest} e s q f =
       let l = ap length (plan_next e) ∙ length-append (batch_records p.batch p.report) (plan_records rest) in
       record { few = omega arith; rest = omega (arith, l, q, m.rest) }

@@ -13,7 +13,7 @@ impl Part<'_> {
     // A batch with its close, and with a report or without.
     fn length(self) -> usize
         ensures is { result ≡ length (batch_records self.entry.batch.now self.entry.report) }
-        ensures few { result ≤ 5 * 2 ^ 61 + 2 }
+        ensures few { result ≤ 5 * 2 ^ 16 }
     {
         let links = self.batch.len() / 2;
         if self.report {

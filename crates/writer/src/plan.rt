@@ -1,5 +1,5 @@
 // What is lent of a plan, and its batches: cut off the front one by one.
-ghost use Rattle.std.specs.Prelude.{◌≡◌, length, eqb};
+ghost use Rattle.std.specs.Prelude.{◌≡◌, ◌^◌, ◌<◌, length, eqb};
 ghost use Rattle.plain.specs.Table.{total};
 
 use tables::Verdict;
@@ -19,11 +19,12 @@ fn add_up(lengths: &[u16], numbers: usize) -> bool
     left == 0
 }
 
-// A batch, and whether a report is asked after it, which the byte says where it is not 0.
+// A batch, whose length has 16 bits, and whether a report is asked after it, which the byte says where it is not 0.
 #[derive(Clone, Copy)]
 pub struct Part<'a> {
     pub batch: &'a [u16],
     pub report: bool,
+    ghost few: { length batch.now < 2 ^ 16 },
 }
 
 // The slices that are lent: a report byte for each length, and lengths that add up to the numbers.
