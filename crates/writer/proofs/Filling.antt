@@ -73,7 +73,7 @@ pub first_room : (piece rest l : List ℕ) → length (piece ++ rest) ≤ length
 first_room piece rest l h = omega (arith, h, length-append piece rest)
 
 module _ (piece rest : List ℕ) {before now : List ℕ} {k : ℕ} (h : length (piece ++ rest) ≤ length before) (f : Fills piece before now k) where
-  first_written : Writing (piece ++ rest) rest before now k
+  pub first_written : Writing (piece ++ rest) rest before now k
   first_written =
       let l : length piece + length rest ≤ length before = omega (arith, h, length-append piece rest) in
       let y : List ℕ = drop (length piece) before in
