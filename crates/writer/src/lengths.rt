@@ -26,6 +26,7 @@ impl Part<'_> {
 
 impl Plan<'_> {
     // The file of n machines. The sum stops where it has passed the most that a file may have, so that it never wraps.
+    // Kept: that there are no more machines than a site has speaks of `up`, which is lent alone, here and in `tree` and `Plan::write`; a struct of one slice is no plainer.
     pub fn length(self, n: usize) -> usize
         requires { n ≤ most_machines }
         ensures { Measured (3 + 3 * n + length (plan_records (parts self.entry))) result }

@@ -1,13 +1,9 @@
 // The writer of site files: a tree, batches of links, and the reports asked after them, as one site file in a lent buffer.
 #![tactic(auto)]
 
-ghost use Rattle.std.specs.Prelude.{◌≡◌, [], ◌∷◌, ◌+◌, ◌*◌, ◌≤◌, length};
+ghost use Rattle.std.specs.Prelude.{◌≡◌};
 ghost use Rattle.tables.specs.Outcome.{outcome};
-ghost use Rattle.tables.specs.Tree.{most_machines};
-ghost use Rattle.tables.specs.Verdict.{checks};
-ghost use Rattle.writer.specs.Lent.{parts};
-ghost use Rattle.writer.specs.Plan.{plan_records};
-ghost use Rattle.writer.specs.Written.{batches_verdict, room_verdict, write_of};
+ghost use Rattle.writer.specs.Written.{write_of};
 
 mod lengths;
 mod plan;
@@ -15,19 +11,6 @@ mod records;
 
 use plan::Plan;
 use tables::{Answer, Fault, Verdict};
-
-// The batches, then the length of the file of n machines.
-// Kept: that there are no more machines than a site has speaks of `up`, which is lent alone, here and in `Plan::length`, `tree` and `Plan::write`; a struct of one slice is no plainer.
-fn check(n: usize, plan: Plan<'_>, room: usize) -> Verdict
-    requires { n ≤ most_machines }
-    ensures { result ≡ checks (batches_verdict n (parts plan.entry) ∷ room_verdict (3 + 3 * n + length (plan_records (parts plan.entry))) room ∷ []) }
-{
-    let batches = plan.check(n);
-    let Verdict::Sound = batches else {
-        return batches;
-    };
-    lengths::room(plan.length(n), room)
-}
 
 // Writes the site file over the front of `out`, and answers its length. A refusal leaves `out` as it came.
 // Kept: the plan comes in three slices, since document 02 lends them so; from `Plan::new` on they are one struct.
@@ -40,12 +23,16 @@ pub fn write(up: &[u16], links: &[u16], lengths: &[u16], reports: &[u8], out: &m
         return checks::answer(tree, 0);
     };
     let Some(plan) = Plan::new(links, lengths, reports) else {
-        return checks::refusal(Fault::Parts, lengths.len());
+        return checks::answer(Verdict::Refused(Fault::Parts, lengths.len()), 0);
     };
-    let fine = check(up.len(), plan, out.len());
-    let Verdict::Sound = fine else {
-        return checks::answer(fine, 0);
+    let batches = plan.check(up.len());
+    let Verdict::Sound = batches else {
+        return checks::answer(batches, 0);
+    };
+    let room = lengths::room(plan.length(up.len()), out.len());
+    let Verdict::Sound = room else {
+        return checks::answer(room, 0);
     };
     let len = plan.write(up, out);
-    checks::answer(fine, len)
+    checks::answer(room, len)
 }

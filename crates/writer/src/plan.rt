@@ -39,8 +39,8 @@ pub struct Plan<'a> {
 }
 
 impl<'a> Plan<'a> {
-    ghost use Rattle.writer.specs.Written.{batches_verdict};
-    ghost use Rattle.writer.specs.Lent.{parts, Planned};
+    ghost use Rattle.writer.specs.Written.{plan_verdict};
+    ghost use Rattle.writer.specs.Lent.{Planned};
 
     // A plan of these slices; None, to be answered by 27, where they don't go together.
     pub fn new(links: &'a [u16], lengths: &'a [u16], reports: &'a [u8]) -> Option<Plan<'a>>
@@ -59,9 +59,9 @@ impl<'a> Plan<'a> {
         })
     }
 
-    // Refuses the first bad batch, with 7 to 9.
+    // Refuses the first bad batch, with 7 to 9; 27 is never given here, since the slices go together.
     pub fn check(self, n: usize) -> Verdict
-        ensures { result ≡ batches_verdict n (parts self.entry) }
+        ensures { result ≡ plan_verdict n self.entry.links.now self.entry.lengths.now self.entry.reports.now }
     {
         for part in self {
             let good = checks::batch(n, part.batch);

