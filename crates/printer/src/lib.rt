@@ -50,6 +50,7 @@ pub fn print_file(
 }
 
 // One site file over a lent desk. What the desk holds does not matter.
+// Kept: `Desk::take` lends the same eight arrays, to another function: of a loan of eight at once the language has no value.
 pub fn print_on(out: &impl Print, file: &[u8], desk: &mut Desk) -> io::Result<()> {
     print_file(
         out,

@@ -3,7 +3,7 @@
 use mathlib.Core.Path.{◌≡◌, sym, ap, ◌∙◌}
 use mathlib.Core.Logic.{◌≢◌}
 use mathlib.Core.List.{List, [], ◌∷◌, ◌++◌}
-use Prim.Native.Nat.{ℕ, suc, ◌+◌, ◌*◌, ◌≤◌, ◌<◌}
+use Prim.Native.Nat.{ℕ, suc, ◌+◌, ◌≤◌, ◌<◌}
 use native.Mathlib.Omega.{arith}
 use native.Mathlib.Numerals.{add-one}
 use lib.ListN.{length, take, set}
@@ -15,9 +15,9 @@ use Rattle.tables.specs.declared.Fault.{Fault}
 use Rattle.tables.specs.declared.Verdict.TheVariants.{the_data as Verdict, Sound, Refused}
 use Rattle.tables.specs.Answer.{answer_to}
 use Rattle.tables.specs.Outcome.{outcome, judged}
-use Rattle.tables.specs.Tree.{most_machines, size_verdict, tree_verdict}
+use Rattle.tables.specs.Tree.{size_verdict, tree_verdict}
 use Rattle.tables.specs.Tables.{Tables, tables_of, fresh}
-use Rattle.tables.specs.Batch.{most_links, numbers_verdict}
+use Rattle.tables.specs.Batch.{numbers_verdict}
 use Rattle.tables.proofs.Calls.{limits}
 use Rattle.checks.proofs.Checking.{told}
 use Rattle.sitefile.specs.Record.{body_length, body_of, word}
@@ -52,7 +52,7 @@ module _ (bytes : List ℕ) (r : Reader) (m : ℕ) {c : Verdict} (e : m ≡ word
 
 -- kind 2
 module _ (bytes : List ℕ) (r : Reader) (up depth group mark batch machines links : List ℕ) {u : ℕ} (e : u ≡ word (body_of bytes r.place) 0)
-    (d : UplinkDue bytes r) (size : length up ≡ most_machines) where
+    (d : UplinkDue bytes r (length up) (length depth) (length group) (length mark)) where
   abbrev room₂ : Room
   room₂ = room_of up depth group mark batch machines links
 
@@ -63,7 +63,7 @@ module _ (bytes : List ℕ) (r : Reader) (up depth group mark batch machines lin
   after = reader_at (r.place + 3) r.n (r.ups + 1) 0
 
   more : r.ups + 1 ≤ length up
-  more = omega (arith, d.more, d.few)
+  more = let f = d.fronts in omega arith
 
   grown-length : length grown ≡ r.ups + 1
   grown-length = let h = more in length_more up (u ∷ []) r.ups (omega arith)
@@ -101,28 +101,32 @@ module _ (bytes : List ℕ) (r : Reader) (up depth group mark batch machines lin
         let (s, l) = answer_refused own r.n (laid_tables (fresh grown) own) (tree_verdict grown) f started in
         rw (sym e, set-set up r.ups u (at up r.ups), set-get_or up r.ups 0, grown-length, le-ltb (r.ups + 1) r.n, s.is, ← s.answered, l)
 
--- kind 3: where the batch may have two numbers more, there is room for them
-pub link_room : {bytes : List ℕ} {r : Reader} {c : Verdict} → LinkDue bytes r → c ≡ numbers_verdict (r.opened + 2) → c ≡ Sound → r.opened + 1 < 2 * most_links
-link_room {r = r} d q f = let k = (limits.links (r.opened + 2)).0 (told f q) in omega arith
+-- kind 3: where the batch may have two numbers more, the slice has room for them
+module _ {bytes : List ℕ} {r : Reader} (batch : List ℕ) {c : Verdict} (d : LinkDue bytes r (length batch)) (q : c ≡ numbers_verdict (r.opened + 2)) (f : c ≡ Sound) where
+  pub room_second : r.opened + 1 < length batch
+  room_second = let k = (limits.links (r.opened + 2)).0 (told f q) in omega (arith, d.size)
 
-module _ (bytes : List ℕ) (r : Reader) (up depth group mark batch machines links : List ℕ) (d : LinkDue bytes r)
-    (size : length batch ≡ 2 * most_links) {c : Verdict} (q : c ≡ numbers_verdict (r.opened + 2)) where
+  pub room_first : r.opened < length batch
+  room_first = let h = room_second in omega arith
+
+module _ (bytes : List ℕ) (r : Reader) (up depth group mark batch machines links : List ℕ) (d : LinkDue bytes r (length batch)) where
   abbrev room₃ : Room
   room₃ = room_of up depth group mark batch machines links
 
   opened_size : length (take r.opened batch) ≡ r.opened
-  opened_size = length-take-le r.opened batch (omega (arith, d.inside))
+  opened_size = length-take-le r.opened batch d.inside
 
-  pub link_full : {a : Answer} {why : Fault} {place : ℕ} → c ≡ Refused why place → a ≡ answer_to c 0 → outcome (steps.Refused a) room₃ ≡ leads bytes r due.Link room₃
-  unfolding leads file.done file.link read_of
-  link_full f a = rw (opened_size, told f q, a, f)
+  module _ {c : Verdict} (q : c ≡ numbers_verdict (r.opened + 2)) where
+    pub link_full : {a : Answer} {why : Fault} {place : ℕ} → c ≡ Refused why place → a ≡ answer_to c 0 → outcome (steps.Refused a) room₃ ≡ leads bytes r due.Link room₃
+    unfolding leads file.done file.link read_of
+    link_full f a = rw (opened_size, told f q, a, f)
 
-  pub link_read : {a b : ℕ} → a ≡ word (body_of bytes r.place) 0 → b ≡ word (body_of bytes r.place) 1 → c ≡ Sound → r.ups ≤ length up
-      → outcome (steps.Read (reader_at (r.place + 5) r.n r.ups (r.opened + 2))) (room_of up depth group mark (set (set batch r.opened a) (r.opened + 1) b) machines links)
-      ≡ leads bytes r due.Link room₃
-  unfolding leads file.done file.link read_of holding body_length
-  link_read {a} {b} ea eb f l =
-      let p : r.place + 1 + 4 ≡ r.place + 5 = omega arith in
-      let h : r.opened + 2 ≤ length batch = omega (arith, link_room d q f) in
-      rw (sym ea, sym eb, opened_size, told f q)
-      (simp laid_front (rw (add-one r.opened, laid_more batch (a ∷ b ∷ []) r.opened h, p, length-take-le r.ups up l, length_more batch (a ∷ b ∷ []) r.opened (omega (arith, d.inside)))))
+    pub link_read : {a b : ℕ} → a ≡ word (body_of bytes r.place) 0 → b ≡ word (body_of bytes r.place) 1 → c ≡ Sound → r.ups ≤ length up
+        → outcome (steps.Read (reader_at (r.place + 5) r.n r.ups (r.opened + 2))) (room_of up depth group mark (set (set batch r.opened a) (r.opened + 1) b) machines links)
+        ≡ leads bytes r due.Link room₃
+    unfolding leads file.done file.link read_of holding body_length
+    link_read {a} {b} ea eb f l =
+        let p : r.place + 1 + 4 ≡ r.place + 5 = omega arith in
+        let h : r.opened + 2 ≤ length batch = omega (arith, room_second batch d q f) in
+        rw (sym ea, sym eb, opened_size, told f q)
+        (simp laid_front (rw (add-one r.opened, laid_more batch (a ∷ b ∷ []) r.opened h, p, length-take-le r.ups up l, length_more batch (a ∷ b ∷ []) r.opened d.inside)))

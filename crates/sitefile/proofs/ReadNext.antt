@@ -46,21 +46,21 @@ module _ (bytes : List ℕ) (r : Reader) {d : Due} {b : Bool} (e : b ≡ counts_
   unfolding DueFacts
   size_due h = facts h
 
-  pub uplink_due : d ≡ due.Uplink → UplinkDue bytes r
-  unfolding DueFacts
-  uplink_due h = let t : DueFacts bytes r due.Uplink = facts h in record { body = t.0; more = t.1; few = fit.0 }
-
-  pub link_due : d ≡ due.Link → LinkDue bytes r
-  unfolding DueFacts
-  link_due h = let k = fit in record { body = facts h; inside = k.1.1.0; pairs = k.1.1.1 }
-
   pub ups_inside : {up : ℕ} → up ≡ most_machines → r.ups ≤ up
   ups_inside u = let k = fit in omega arith
+
+  pub link_due : {batch : ℕ} → d ≡ due.Link → batch ≡ 2 * most_links → LinkDue bytes r batch
+  unfolding DueFacts
+  link_due h b = let k = fit in record { body = facts h; inside = omega arith; size = b; pairs = k.1.1.1 }
 
   -- over arrays that have room for any site
   module _ {up depth group mark : ℕ} (u : up ≡ most_machines) (p : depth ≡ most_machines) (q : group ≡ most_machines) (m : mark ≡ most_machines) where
     fronts : Fronts r.n up depth group mark
     fronts = let k = fit in record { in_up = omega arith; in_depth = omega arith; in_group = omega arith; in_mark = omega arith }
+
+    pub uplink_due : d ≡ due.Uplink → UplinkDue bytes r up depth group mark
+    unfolding DueFacts
+    uplink_due h = let t : DueFacts bytes r due.Uplink = facts h in record { body = t.0; more = t.1; few = fit.0; fronts = fronts }
 
     pub close_due : {batch : ℕ} → d ≡ due.Close → length bytes < 2 ^ 64 → batch ≡ 2 * most_links → CloseDue r up depth group mark batch
     unfolding DueFacts

@@ -34,14 +34,16 @@ abbrev pub start_front : ℕ → List ℕ → Tables → Outcome Answer Tables
 start_front n up t = judged (tree_verdict (take n up)) t n (laid_tables (fresh (take n up)) t)
 
 -- what the records of kind 2, 3, 4 and 5 are read under
-pub record UplinkDue (bytes : List ℕ) (r : Reader) : Type 0 where
+pub record UplinkDue (bytes : List ℕ) (r : Reader) (up depth group mark : ℕ) : Type 0 where
   pub body : r.place + 3 ≤ length bytes
   pub more : r.ups < r.n
   pub few : r.n ≤ most_machines
+  pub fronts : Fronts r.n up depth group mark
 
-pub record LinkDue (bytes : List ℕ) (r : Reader) : Type 0 where
+pub record LinkDue (bytes : List ℕ) (r : Reader) (batch : ℕ) : Type 0 where
   pub body : r.place + 5 ≤ length bytes
-  pub inside : r.opened ≤ 2 * most_links
+  pub inside : r.opened ≤ batch
+  pub size : batch ≡ 2 * most_links
   pub pairs : r.opened % 2 ≡ 0
 
 pub record CloseDue (r : Reader) (up depth group mark batch : ℕ) : Type 0 where

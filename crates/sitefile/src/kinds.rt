@@ -40,16 +40,16 @@ fn start(up: &[u16], n: usize, depth: &mut [u16], group: &mut [u16], mark: &mut 
 }
 
 // Kind 2: the up of the next machine. Start runs after the last; where it refuses, the entry is put back.
-// Kept: arrays by themselves, here and for kind 3, as `read::next` is lent them; their types say how long they are.
+// Kept: slices by themselves, here and for the other kinds: `read::next` is lent its arrays one by one.
 pub fn uplink(
     file: &[u8],
     r: Reader,
-    up: &mut [u16; Site::MACHINES],
-    depth: &mut [u16; Site::MACHINES],
-    group: &mut [u16; Site::MACHINES],
-    mark: &mut [u8; Site::MACHINES],
+    up: &mut [u16],
+    depth: &mut [u16],
+    group: &mut [u16],
+    mark: &mut [u8],
 ) -> Step
-    requires { UplinkDue file.now r }
+    requires { UplinkDue file.now r (length up.old) (length depth.old) (length group.old) (length mark.old) }
     ensures { (batch machines links : List ℕ) → outcome result (room_of up.new depth.new group.new mark.new batch machines links)
         ≡ leads file.now r Due.Uplink (room_of up.old depth.old group.old mark.old batch machines links) }
 {
@@ -75,8 +75,8 @@ pub fn uplink(
 }
 
 // Kind 3: a link, kept until its batch is closed.
-pub fn link(file: &[u8], r: Reader, batch: &mut [u16; 2 * Site::LINKS]) -> Step
-    requires { LinkDue file.now r }
+pub fn link(file: &[u8], r: Reader, batch: &mut [u16]) -> Step
+    requires { LinkDue file.now r (length batch.old) }
     ensures { (up depth group mark machines links : List ℕ) → r.ups ≤ length up → outcome result (room_of up depth group mark batch.new machines links)
         ≡ leads file.now r Due.Link (room_of up depth group mark batch.old machines links) }
 {

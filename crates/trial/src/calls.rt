@@ -79,7 +79,7 @@ impl Slices<'_> {
             b'R' => self.report(out),
             b'T' => self.show(out),
             b'W' => self.write(out, from),
-            b'\n' => println!(out),
+            b'\n' => print::text(out, b"\n"),
             _ => Ok(()),
         }
     }

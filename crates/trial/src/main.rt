@@ -47,7 +47,7 @@ fn site(out: &impl Print, from: &mut impl Read) -> io::Result<()> {
 fn item(out: &impl Print, from: &mut impl Read, byte: u8) -> io::Result<()> {
     match byte {
         b'[' => site(out, from),
-        _ => out.write_all(&[byte]),
+        _ => print::text(out, &[byte]),
     }
 }
 

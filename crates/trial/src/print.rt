@@ -3,6 +3,11 @@ use std::fmt::Display;
 use std::io;
 use tables::Answer;
 
+// A text as it stands.
+pub fn text(out: &impl Print, bytes: &[u8]) -> io::Result<()> {
+    out.write_all(bytes)
+}
+
 // A name, and the numbers of a table, with a space before the first and a comma before the others.
 pub fn table<T: Display>(out: &impl Print, name: &str, values: &[T]) -> io::Result<()> {
     print!(out; "{name}")?;

@@ -38,6 +38,7 @@ impl Desk {
     }
 
     // Takes the next record of a site file, and lays what it prints over the front of the desk's text.
+    // Kept: `printer::print_on` lends the same eight arrays, to another function: of a loan of eight at once the language has no value.
     pub fn take(&mut self, file: &[u8], r: Reader) -> Turn
         ensures { outcome result (as_desk self.new) ≡ turn_of file.now r (as_desk self.old) }
     {

@@ -6,7 +6,7 @@ use Prim.Native.Nat.{ℕ, zero, suc, ◌+◌, ◌-◌, ◌<◌, ◌≤◌}
 use native.Mathlib.Omega.{arith}
 use lib.ListN.{length, drop, drop_of_length-le}
 use lib.Dec.{eqb}
-use borrow.Author.Tests.{eq-eqb, ne_eqb, not-true}
+use borrow.Author.Tests.{eq-eqb, ne_eqb, not-true, not-false}
 use Rattle.plain.specs.Table.{at, total}
 use Rattle.tables.specs.declared.Fault.{Fault}
 use Rattle.tables.specs.declared.Verdict.TheVariants.{the_data as Verdict, Sound, Refused}
@@ -43,15 +43,25 @@ module _ {lengths : List ℕ} {numbers left b : ℕ} (l : Left lengths numbers l
       same (total lengths) numbers left (omega (arith, e, l.rest))
 
 -- 27
-module _ (links lengths reports : List ℕ) where
-  pub odd_parts : ¬ (length reports ≡ length lengths) → (n : ℕ) → Refused Fault.Parts (length lengths) ≡ plan_verdict n links lengths reports
-  unfolding plan_verdict parts_verdict checks
-  odd_parts o n = rw (ne_eqb (length reports) (length lengths) o)
+module _ (numbers : ℕ) (lengths : List ℕ) (reports : ℕ) where
+  pub odd_parts : ¬ (reports ≡ length lengths) → parts_verdict numbers lengths reports ≡ Refused Fault.Parts (length lengths)
+  unfolding parts_verdict
+  odd_parts o = rw (ne_eqb reports (length lengths) o)
 
-  pub wrong_sum : {s : Bool} → length reports ≡ length lengths → s ≡ eqb (total lengths) (length links) → not s ≡ true
-      → (n : ℕ) → Refused Fault.Parts (length lengths) ≡ plan_verdict n links lengths reports
-  unfolding plan_verdict parts_verdict checks
-  wrong_sum {s} e q f n = rw (eq-eqb (length reports) (length lengths) e, ← q, not-true s f)
+  module _ (e : reports ≡ length lengths) {s : Bool} (q : s ≡ eqb (total lengths) numbers) where
+    pub wrong_sum : not s ≡ true → parts_verdict numbers lengths reports ≡ Refused Fault.Parts (length lengths)
+    unfolding parts_verdict
+    wrong_sum f = rw (eq-eqb reports (length lengths) e, ← q, not-true s f)
+
+    pub right_sum : not s ≡ false → parts_verdict numbers lengths reports ≡ Sound
+    unfolding parts_verdict
+    right_sum f = rw (eq-eqb reports (length lengths) e, ← q, not-false s f)
+
+-- then it is the verdict of the plan, for any number of machines
+pub no_plan : (links lengths reports : List ℕ) → parts_verdict (length links) lengths (length reports) ≡ Refused Fault.Parts (length lengths)
+    → (n : ℕ) → Refused Fault.Parts (length lengths) ≡ plan_verdict n links lengths reports
+unfolding plan_verdict
+no_plan links lengths reports e n = sym (refuses e _ ∙ e)
 
 -- every batch that is cut off passed, so the verdict v is that of those that are left
 pub record Passed (v : Verdict) (n : ℕ) (left : List Part) : Type 0 where
@@ -59,8 +69,10 @@ pub record Passed (v : Verdict) (n : ℕ) (left : List Part) : Type 0 where
 
 -- at first all are left, for of a plan 27 is never given
 pub begun : (n : ℕ) (p : Plan) → Passed (plan_verdict n p.links.now p.lengths.now p.reports.now) n (parts p)
-unfolding plan_verdict parts_verdict parts
-begun n p = record { rest = rw (eq-eqb (length p.reports.now) (length p.lengths.now) p.bytes, eq-eqb (total p.lengths.now) (length p.links.now) p.sum) (passes refl _ ∙ checks_one _) }
+unfolding plan_verdict parts
+begun n p =
+    let sound = right_sum (length p.links.now) p.lengths.now (length p.reports.now) p.bytes (sym (eq-eqb (total p.lengths.now) (length p.links.now) p.sum)) refl in
+    record { rest = passes sound _ ∙ checks_one _ }
 
 module _ {v : Verdict} {n : ℕ} {left : List Part} (p : Passed v n left) where
   pub passed_all : left ≡ [] → Sound ≡ v
