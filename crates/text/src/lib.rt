@@ -28,7 +28,7 @@ fn fits(n: usize, machines: usize, links: usize, room: usize) -> bool
 }
 
 // A number in decimal, from a place on: the digits of a tenth of it, then its last one. Answers the place behind it.
-// Kept: a buffer and a place, and no method of `Page`: tried, and a report's text took 1.9 times as long, for a page that is lent to a call of itself lies in memory, and
+// Kept: a buffer and a place, and no method of `Page`: tried, and a report's text took 1.7 to 1.9 times as long, for a page that is lent to a call of itself lies in memory, and
 // the place of each byte waits for that of the one before (docs/LOOK-BACK.md).
 // Kept: `write!` promises its bytes only where it answers Ok, and `report_written` promises the text wherever there is room; with the crate itoa
 // the call and the copy of its digits are no shorter than this, and the line that text/last_digit_wrong makes wrong would be none of ours.
